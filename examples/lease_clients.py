@@ -19,7 +19,7 @@ OUTPUT = "2 4 8"
 
 
 def ask(name, client, call):
-    """Asks, prints the call with its answer, and gives the answer's words."""
+    """Makes a call, prints it with its answer, and returns the answer's words."""
     answer = client.ask(call)
     print(f"{name} {call} -> {answer}")
     return answer.split()

@@ -8,20 +8,20 @@ from worked_rows import read_groups, read_rows  # the tool, which stands in tool
 
 FURTHER_ROWS = REPOSITORY / "tests/rows.txt"
 
-# what a document says of a block that no test runs, in the paragraph before it or behind it
-NOT_RUN = "not run by `./test`"
-# how the commands begin that stand in blocks without a prompt
+# the comment that a document has before a block that no test runs
+NOT_RUN = "<!-- This block is not run by ./test"
+# how the commands begin that are in blocks without a prompt
 COMMANDS = ("./", "tools/", "clients/", "bench/")
 
 
 class Block(NamedTuple):
-    """Some lines of a document, the words behind its fence where it has one, and the paragraphs beside it."""
+    """Some lines of a document, the words after its fence if it has one, and the part before it."""
 
     document: str
     line: int
     words: List[str]
     lines: List[str]
-    beside: str
+    before: str
 
     def place(self):
         return f"{self.document} line {self.line}"
@@ -42,7 +42,7 @@ class Block(NamedTuple):
         return not self.words and self.lines[0].startswith(COMMANDS)
 
     def is_said_not_to_be_run(self):
-        return NOT_RUN in self.beside
+        return NOT_RUN in self.before
 
     def pairs(self):
         """The lines of a script, and the answers to those that have one."""
@@ -61,7 +61,7 @@ def documents():
 
 
 def parts_of(path):
-    """The parts of a document between empty lines, each with its first line's number; what stands between fences is one."""
+    """Returns the parts of a document between empty lines, each with its first line's number. A fenced block is one part."""
     found, part, is_fenced = [], [], False
     for number, line in enumerate([*(REPOSITORY / path).read_text().splitlines(), ""], 1):
         is_fenced ^= line.startswith("```")
@@ -78,16 +78,16 @@ def blocks_of(path):
     found = []
     parts = parts_of(path)
     for place, (number, part) in enumerate(parts):
-        beside = " ".join(line for _, near in parts[max(0, place - 1) : place + 2] if near is not part for line in near)
+        before = " ".join(parts[place - 1][1]) if place else ""
         if part[0].startswith("```"):
-            found.append(Block(path, number, part[0][3:].split(), part[1:-1], beside))
+            found.append(Block(path, number, part[0][3:].split(), part[1:-1], before))
         elif all(line.startswith("    ") for line in part):
-            found.append(Block(path, number, [], [line[4:] for line in part], beside))
+            found.append(Block(path, number, [], [line[4:] for line in part], before))
     return found
 
 
 def commands_of(lines):
-    """The commands among lines of a terminal, each with what it prints; `> ` goes on with a command."""
+    """Returns the commands among lines of a terminal, each with what it prints. `> ` continues a command."""
     found = []
     for line in lines:
         if line.startswith("$ "):
@@ -122,6 +122,6 @@ def further_rows():
 
 
 def is_answer(found, wanted):
-    """Whether a line is the wanted one; `denied N` and `apart N` are short for the whole line."""
+    """Returns whether a line is the expected one; `denied N` and `apart N` are short for the whole line."""
     short = re.fullmatch(r"(denied|apart) \d+", wanted)
     return found.startswith(wanted + " ") if short else found == wanted

@@ -115,7 +115,7 @@ class Browser:
             self.ask("Input.dispatchKeyEvent", type="keyUp", **given)
 
     def look(self, width: int, height: int, scheme: str = "light") -> None:
-        """Gives the window a size and a colour scheme."""
+        """Sets the size and the colour scheme of the window."""
         self.ask("Emulation.setDeviceMetricsOverride", width=width, height=height, deviceScaleFactor=1, mobile=False)
         features = [{"name": "prefers-color-scheme", "value": scheme}]
         self.ask("Emulation.setEmulatedMedia", features=features)

@@ -127,7 +127,7 @@ def objects_of(root):
 
 
 def timed(action):
-    """What an action gives, and how many seconds it took."""
+    """Returns the result of an action, and how many seconds it took."""
     begin = time.monotonic()
     return action(), time.monotonic() - begin
 

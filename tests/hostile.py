@@ -51,7 +51,7 @@ MALFORMED = {
 
 
 def serve_one(listener, answers, ended, drips):
-    """Gives one connection an answer for each request, and then ends it, or waits for the test's end."""
+    """Sends one connection an answer for each request, and then ends it, or waits for the test's end."""
     with contextlib.suppress(OSError):
         connection, _ = listener.accept()
         with connection:
@@ -64,7 +64,7 @@ def serve_one(listener, answers, ended, drips):
 
 @contextlib.contextmanager
 def answering(path, *answers, drips=None):
-    """A server that gives its one connection these answers, and then ends it; with `drips` it sends that again and again."""
+    """A server that sends its one connection these answers, and then ends it; with `drips` it sends that again and again."""
     ended = threading.Event()
     with socket.socket(socket.AF_UNIX, socket.SOCK_STREAM) as listener:
         listener.settimeout(SECONDS)
@@ -81,7 +81,7 @@ def answering(path, *answers, drips=None):
 
 @contextlib.contextmanager
 def crowded(path):
-    """A listener that accepts nobody, and where as many connections wait as may."""
+    """A listener that accepts no client, with as many waiting connections as it may have."""
     with contextlib.ExitStack() as opened:
         listener = opened.enter_context(socket.socket(socket.AF_UNIX, socket.SOCK_STREAM))
         listener.bind(str(path))

@@ -1,4 +1,4 @@
-/* For tests: carries out scripts through libdrm alone, and writes the answers as docs/FORMATS.md
+/* For tests: carries out scripts through libdrm alone, and writes the answers as docs/SCRIPTS.md
  * has them.
  *
  * A refusal is `denied ERRNO`, and a client has no number: libdrm tells no more. `open L lease T`

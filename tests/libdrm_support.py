@@ -33,7 +33,27 @@ TOO_SLOW = 75
 TRIES = 10
 # the number of the system call on x86-64
 RECVMSG = "47"
+# what is checked in the library, the display and the supervisor as they run: address,undefined or thread, or nothing
+SANITIZERS = os.environ.get("LIBDRM_SANITIZERS", "")
 COMPILER = ["cc", "-std=gnu11", "-Wall", "-Wextra", "-Wpedantic", "-Werror", "-O2", "-pthread"]
+
+
+def sanitize():
+    """Compiles the parts with sanitizers, in another folder. A library brings AddressSanitizer into each program."""
+    archive = run("cc", "-print-file-name=libasan.a").stdout.strip()
+    brings = ["-static-libasan", f"-Wl,--whole-archive,{archive},--no-whole-archive", "-lstdc++", "-lm"]
+    parts = {"": brings if "address" in SANITIZERS else [], "--display": [], "--supervisor": []}
+    os.environ["LIBDRM_OUT"] = str(LIBRARY / "out" / SANITIZERS)
+    # what only the loop's set of descriptors refers to would be a leak
+    os.environ["ASAN_OPTIONS"] = "detect_leaks=0:verify_asan_link_order=0"
+    for part, more in parts.items():
+        flags = " ".join(["-g", "-O1", f"-fsanitize={SANITIZERS}", "-fno-sanitize-recover=undefined", *more])
+        built = run(LIBRARY / "build", *part.split(), env={**os.environ, "CFLAGS": flags}, timeout=600)
+        expect("what the build says", (built.returncode, built.stderr), (0, ""))
+
+
+if SANITIZERS:
+    sanitize()
 
 
 def compiled(source):
@@ -82,7 +102,7 @@ def want_logind():
 
 
 def environment(folder, **variables):
-    """The environment of a program that finds the server in this folder behind libdrm."""
+    """Returns the environment of a program that finds the server in this folder through libdrm."""
     sockets = {f"DRM_SERVER_{name.upper()}": str(folder / name) for name in CLASSES}
     own = {"LD_PRELOAD": library(), "DRM_SERVER_DISPLAY": str(folder / "display")}
     return {**os.environ, **own, **sockets, **variables}
@@ -159,7 +179,7 @@ def in_time(run_once):
 
 
 def said(folder, *command, **options):
-    """What a program prints that ends well, beside a server of its own."""
+    """Returns what a program prints that ends well, next to its own server."""
     given = environment(folder)
 
     def run_once():

@@ -1,4 +1,4 @@
-"""What a picture of an audit looks like, for tests that its boxes, texts and arrows stand clear of each other."""
+"""What a picture of an audit looks like, for tests that its boxes, texts and arrows do not overlap."""
 import xml.etree.ElementTree as ElementTree
 
 from support import expect

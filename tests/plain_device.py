@@ -1,7 +1,7 @@
-"""A device in plain Python, written from docs/RULES.md and docs/FORMATS.md alone: a second opinion on what the server answers.
+"""A device in plain Python, written from docs/RULES.md, docs/SCRIPTS.md and docs/FRAMES.md alone: a second opinion on what the server answers.
 
-It is slow and keeps everything as rows of dicts and sets. `Plain.line` takes a script's line and gives the line that the server is
-to write, or None for a line that writes nothing; `Plain.rows` gives the rows of an audit's kind.
+It is slow and keeps everything as rows of dicts and sets. `Plain.line` takes a script's line and returns the line that the server is
+to write, or None for a line that writes nothing. `Plain.rows` returns the rows of an audit's kind.
 """
 import dataclasses
 from typing import Dict, List, NamedTuple, Optional, Set, Tuple
@@ -166,7 +166,7 @@ def least_free(taken, first, last):
 
 
 def next_in_turn(taken, given, last):
-    """The least free number above the last one given or, where there is none, from 1."""
+    """Returns the lowest free number above the last one or, if there is none, from 1."""
     try:
         return least_free(taken, given + 1, last)
     except Denied:
@@ -223,7 +223,7 @@ class Plain:
         return self.step(len(self.clients) + 1, lambda: self.ask(caller, words[1], [int(word) for word in words[2:]]))
 
     def step(self, room, event):
-        """A step that is noted, or 50 where the journal lacks the room for it."""
+        """Records a step, or answers 50 if the journal has no room for it."""
         if self.limits.journal - self.steps < room:
             return "apart 50 JournalFull 28"
         try:
@@ -306,7 +306,7 @@ class Plain:
                 master.grants, master.token = set(), None
 
     def sweep(self):
-        """What nothing keeps goes."""
+        """Removes what nothing keeps."""
         while True:
             kept = {client.master for client in self.clients.values()} | {m.lessor for m in self.masters.values()}
             gone = [number for number, m in self.masters.items() if number not in kept and m.token is None]

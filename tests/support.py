@@ -48,7 +48,7 @@ CLASSES = ("card", "render", "root")
 
 @functools.lru_cache(None)
 def find_program() -> Optional[pathlib.Path]:
-    """The program that the script at the top would run, or none; it compiles one where that is to be done, and tells so.
+    """The program that the script at the top would run, or none; it compiles one if necessary, and reports so.
 
     Whatever a test starts takes the same one, and looks for no other.
     """
@@ -80,7 +80,7 @@ LIBRARY_COMPILER = ["cc", "-std=gnu99", "-Wall", "-Wextra", "-Wpedantic", "-Werr
 
 
 def expect(what: str, found: object, wanted: object) -> None:
-    """Fails the test where a value isn't the one that is wanted."""
+    """Fails the test if a value isn't the expected one."""
     if found != wanted:
         raise AssertionError(f"{what}: {found!r} in place of {wanted!r}")
 
@@ -111,9 +111,9 @@ def next_told(started: Started) -> Optional[str]:
 
 
 def expect_told(ran: Ran, status: int, told: List[str], output: str) -> None:
-    """Compares an ended run's status, what it told on error output, and its output.
+    """Compares an ended run's status, its error output, and its output.
 
-    Warnings stand first, in any order: each comes as its session ends.
+    Warnings are first, in any order: each is logged as its session ends.
     """
     lines = [told_by(line) for line in ran.stderr.splitlines()]
     warned = sorted(line for line in lines if line.startswith("WARN "))
@@ -212,7 +212,7 @@ def end_of(started: Started) -> Ran:
 
 
 def retry(action: Callable[[], Made]) -> Made:
-    """What the action gives once it is no longer refused: the server makes its sockets while the test goes on."""
+    """Returns the result of the action once it is no longer refused: the server makes its sockets while the test runs."""
     until = time.monotonic() + SECONDS
     while True:
         try:
@@ -358,7 +358,7 @@ def want_program(name: str) -> None:
 
 @functools.lru_cache(None)
 def is_compiled_with_checks() -> bool:
-    """Whether the program checks its accesses to memory as it runs, as one does that was compiled without a proof."""
+    """Whether the program checks its accesses to memory as it runs, as one does that was compiled unproved."""
     return b"__asan_init" in pathlib.Path(PROGRAM).read_bytes()
 
 
@@ -370,7 +370,7 @@ def want_no_checks(reason: str) -> None:
 
 @functools.lru_cache(None)
 def find_libdrm() -> Optional[List[str]]:
-    """What a C compiler is told to find libdrm by, or none where there is no compiler, or no libdrm with its headers."""
+    """Returns the options by which a C compiler finds libdrm, or none without a compiler or without libdrm and its headers."""
     if shutil.which("cc") is None:
         return None
     words = ["-I/usr/include/libdrm", "-ldrm"]
@@ -391,7 +391,7 @@ def find_libdrm() -> Optional[List[str]]:
 
 
 def want_libdrm() -> List[str]:
-    """What a C compiler is told to find libdrm by; skips the test where it can't be found."""
+    """Returns the options by which a C compiler finds libdrm. Skips the test if it can't be found."""
     words = find_libdrm()
     if words is None:
         raise Skipped("there is no C compiler, or no libdrm with its headers")
@@ -436,7 +436,7 @@ def compile_client(language: str, source: str, folder: pathlib.Path) -> pathlib.
 
 
 class FolderCase(unittest.TestCase):
-    """A case whose tests each have a folder of their own. They are skipped where there is no program of the server."""
+    """A case whose tests each have their own folder. They are skipped if there is no program of the server."""
 
     folder: pathlib.Path
 

@@ -1,7 +1,10 @@
 #!/usr/bin/env python3
 """Tests of hostile use around the device: used up descriptors, answers that are not taken, processes that pass their connection.
 
-Each test has a folder of its own. The last line is `N passed, M failed`. Standard library only.
+What it tests: descriptors that are used up, faults of listeners and what is left of them, closed standard streams.
+Files of journals. Answers and logs that are not read, dead processes that passed their own connection.
+
+Each test has its own folder. The last line is `N passed, M failed`. Standard library only.
 """
 import array
 import contextlib

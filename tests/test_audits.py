@@ -1,7 +1,9 @@
 #!/usr/bin/env python3
 """Tests of what shows a server's rows: drm-audit, and tools/watch.
 
-Each test is a function of a folder of its own. The last line is `N passed, M failed`. Standard library only.
+What it tests: audits as tables, JSON and graphs without overlaps; `tools/watch` and its page.
+
+Each test has its own folder. The last line is `N passed, M failed`. Standard library only.
 """
 import contextlib
 import json

@@ -1,6 +1,9 @@
 #!/usr/bin/env python3
 """Tests of tools/beside-kernel: docs/LINUX.md, the expected differences, and a few scripts and errnos on a kernel.
 
+What it tests: `docs/LINUX.md` and the files that it is written from. 272 errnos of the library for libdrm programs.
+A few scripts, and these errnos, on a kernel in QEMU, if `tools/beside-kernel` has fetched one.
+
 One test boots a kernel of the cache in QEMU, and is skipped where there is none. `tools/beside-kernel` fetches kernels and compares all
 scripts. The last line is `N passed, M failed`. Standard library only.
 """

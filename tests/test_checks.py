@@ -1,7 +1,13 @@
 #!/usr/bin/env python3
 """Tests of files that check themselves: what doesn't show, standard input, files that are updated, and files that don't end.
 
-Each test is a function of a folder of its own. The last line is `N passed, M failed`. Standard library only.
+What it tests: checked standard input and updated files. Each file is opened by its own path, and all reports are
+added up. The command next to a difference explains it, whatever the file is called. updated files are whole,
+with their permissions, also on a full disk. Files without an end; control bytes. A file that cannot be read
+ends `check` and `explain` with its reason and fault; what a run's end is as a fault is a contract within
+`drm_server` (`tell_end`).
+
+Each test has its own folder. The last line is `N passed, M failed`. Standard library only.
 """
 import os
 import pathlib

@@ -1,7 +1,10 @@
 #!/usr/bin/env python3
 """Tests of the clients.
 
-Each test is a function of a folder of its own. The last line is `N passed, M failed`; a client whose compiler isn't there is
+What it tests: each call and either hello by the Python (threads and asyncio), C and Rust clients; that each opens
+with universal planes off; malformed, truncated and late answers; what is pickled.
+
+Each test has its own folder. The last line is `N passed, M failed`; a client whose compiler isn't there is
 skipped, and told so. Standard library only.
 """
 import asyncio

@@ -1,7 +1,10 @@
 #!/usr/bin/env python3
 """Tests of the control socket, and of the options that plan faults: lists, replaced plans, and what is refused.
 
-Each test has a folder of its own. The last line is `N passed, M failed`. Standard library only.
+What it tests: the control socket: lists, replaced and refused plans, lines in pieces, too long or without an end,
+clients that send nothing or take no answers. Refused command lines.
+
+Each test has its own folder. The last line is `N passed, M failed`. Standard library only.
 """
 import contextlib
 import socket

@@ -1,6 +1,9 @@
 #!/usr/bin/env python3
 """Tests that what the documents show is so: their scripts, terminals, commands, sessions in hex, tables and pictures.
 
+What it tests: each block of a document; worked rows and what is made of them; `examples/`; tables and picture of
+crates; the glossary; a full journal; the umask of socket files.
+
 Each block of a document is a test; one that none here knows how to try fails, unless the document says that it isn't run. The
 worked rows and the examples are tests too. The last line is `N passed, M failed`. Standard library only.
 """
@@ -186,7 +189,7 @@ def expect_commands(folder, block):
 
 
 def expect_terminal_beside(folder, serving, block):
-    """Clients of the server that the document starts, and whose last line it tells."""
+    """Runs clients of the server that the document starts, and compares its last line."""
     words = serving.lines[0].split()
     started = subprocess.Popen(
         [REPOSITORY / words[0], *words[1:]],
@@ -241,7 +244,7 @@ def expect_listing(folder, script, listing):
             else:
                 found.append(clients[who].ask(" ".join(call)))
         expect("answers", found, answers)
-        # an audit is a step itself, so the row of the device comes first
+        # an audit is a step itself, so the row of the device is read first
         pages = {kind: clients["q"].audit(kind) for kind in (10, *range(1, 10))}
     names = [row[1] for table in tables_of("docs/RULES.md") for row in table if len(row) == 6]
     rows = [" ".join(map(str, [name, *row])) for kind, name in enumerate(names, 1) for row in pages[kind]]
@@ -250,6 +253,21 @@ def expect_listing(folder, script, listing):
 
 # pages with programs
 
+
+# the most words of each page that has more than others, and of all together
+MOST_WORDS_OF_OTHERS = 1600
+MOST_WORDS = {
+    "bench/HISTORY.md": 1_900,
+    "docs/ARCHITECTURE.md": 4_700,
+    "docs/COMMANDS.md": 4_600,
+    "docs/DECISIONS.md": 5_200,
+    "docs/FRAMES.md": 2_100,
+    "docs/LIBDRM.md": 4_700,
+    "docs/PROMISES.md": 8_700,
+    "docs/RULES.md": 4_300,
+    "docs/SERVER.md": 2_500,
+    "in all": 59_365,
+}
 
 # the folder of examples that each guide shows
 GUIDES = {
@@ -300,21 +318,6 @@ def expect_drawing(block):
     expect("crates that there aren't", named - set(crates()), set())
 
 
-def below(words, there):
-    """The crates that a cell says a crate depends on: those it names and, if it says `dependencies`, those that these depend on."""
-    named = set(re.findall(r"`(\w+)`", words))
-    return named | {name for crate in named & set(there) for name in there[crate]} if "dependencies" in words else named
-
-
-# the glossary
-
-
-# the rules
-
-
-# what the documents say of a long session and of the files of sockets
-
-
 # all blocks of all documents
 
 
@@ -336,7 +339,7 @@ def trial_of(block, before):
     if block.is_terminal():
         return lambda folder: expect_terminal(folder, block)
     if block.is_of_commands():
-        # a server is started by the test of the terminal beside it
+        # a server is started by the test of the terminal next to it
         return (
             None if block.lines[0].startswith("./drm_server serve ") else lambda folder: expect_commands(folder, block)
         )
@@ -401,17 +404,8 @@ class DocumentsTests(FolderCase):
             name = function.strip("`")
             expect(f"whether {place} has {name}", re.search(rf"\bfn {name}\b", source) is not None, True)
 
-    def test_crates_of_the_architecture(self):
-        """The last table lists all crates with their dependencies."""
-        there = crates()
-        table = tables_of("docs/ARCHITECTURE.md")[-1]
-        told = {row[0].strip("`"): row[1] for row in table}
-        expect("crates", sorted(told), sorted(there))
-        for crate, words in told.items():
-            expect(f"what {crate} stands on", sorted(below(words, there)), sorted(there[crate]))
-
     def test_layers_of_the_architecture(self):
-        """The page opens with those of crates.txt, and a crate stands on none of a layer that comes later there."""
+        """The page opens with those of crates.txt, and a crate depends on none of a layer that is later there."""
         ran = run(REPOSITORY / "tools/crates_picture.py", "--layers")
         expect_end(ran, 0, "", ran.stdout)
         layers = [re.findall(r"`(\w+)`", line) for line in ran.stdout.splitlines()]
@@ -437,11 +431,21 @@ class DocumentsTests(FolderCase):
         expect("crates", sorted(re.findall(r">(drm_[a-z_]+)<", ran.stdout)), sorted(crates()))
         expect_picture(ran.stdout, ran.stdout.count('<rect class="box"'), ran.stdout.count('<path class="arrow"'))
 
-    def test_crates_of_the_promises(self):
-        told = [
-            row[0].strip("`") for table in tables_of("docs/PROMISES.md") for row in table if row[0].startswith("`drm_")
-        ]
-        expect("crates", sorted(told), sorted(crates()))
+    def test_pages_that_tools_write(self):
+        """The lists of crates and of tests, and the tables of contents."""
+        for tool in ("pages", "contents"):
+            expect_end(run(REPOSITORY / "tools" / tool, "--check"), 0, "", "")
+
+    def test_pages_have_at_most_their_words(self):
+        """And all pages together, as tools/prose counts them."""
+        ran = run(REPOSITORY / "tools/prose", "--words")
+        words = {page: int(count) for count, page in (line.split(None, 1) for line in ran.stdout.splitlines())}
+        expect("pages of their own limit", set(MOST_WORDS) - set(words), set())
+        expect(
+            "pages that are too long",
+            [(page, count) for page, count in words.items() if count > MOST_WORDS.get(page, MOST_WORDS_OF_OTHERS)],
+            [],
+        )
 
     def test_calls_of_the_glossary(self):
         """It has each call of the core once, by its word, with its name in libdrm, which the C client's follows."""
@@ -465,7 +469,7 @@ class DocumentsTests(FolderCase):
         expect("the table", [row[:2] for row in table], wanted)
 
     def test_journal_is_full(self):
-        """100,000 steps: what comes behind them changes nothing, and the closing has its place."""
+        """100,000 steps: what follows them changes nothing, and the closing has its place."""
         folder = self.folder
         asked, most = protocol.frame(0x00), 100_000
         with server(folder, 1, 0, 0) as started:

@@ -2,7 +2,12 @@
 """Tests of `drm_server explain`: what it tells of examples, as lines and as JSON, of the answers of single lines, and of scripts that it
 can't explain.
 
-Each test is a function of a folder of its own. The last line is `N passed, M failed`. Standard library only.
+What it tests: lines and JSON, worked out manually. Each kind of fact has a row, worked out from RULES. Its wording
+is that of the sources, so the rows do not test the wording. Longest time and memory over a full journal.
+After each line of `examples/` where one more root client can open, the audits of kinds 1, 6, 7 and 10, both
+ways.
+
+Each test has its own folder. The last line is `N passed, M failed`. Standard library only.
 """
 import json
 import os
@@ -600,7 +605,7 @@ def asked(lines):
     if label == "close":
         label, word = word, label
     if word == "raw":
-        table = (REPOSITORY / "docs/FORMATS.md").read_text()
+        table = (REPOSITORY / "docs/FRAMES.md").read_text()
         row = re.search(rf"^\| 0x{int(lines[-1].split()[2]):02X} \| .*? \| `(\w+)`", table, re.MULTILINE)
         word = row.group(1) if row else "a call with an unknown number"
     is_bound = any(re.match(rf"open2? {label} ", line) for line in lines)
@@ -687,7 +692,7 @@ def passed_on(count):
     )
 
 
-# What a journal holds, and what its explanation takes at most, as docs/FORMATS.md says: seconds of a processor, and MB.
+# What a journal holds, and what its explanation takes at most, as docs/COMMANDS.md says: seconds of a processor, and MB.
 STEPS = 100_000
 MOST_SECONDS = 5
 MOST_MEGABYTES = 200

@@ -1,6 +1,10 @@
 #!/usr/bin/env python3
 """Tests of faults on purpose: memory that is refused, answers that are late and connections that break.
 
+What it tests: memory refused to each call that adds a row, late answers and broken connections, by the command line
+and the control socket: audits, journals, and clients that go on meanwhile. The servers of tests in Python, C
+and Rust.
+
 They are planned by the command line, by the control socket, and by the servers of tests in each language. Each test has
 a folder of its own. The last line is `N passed, M failed`. Standard library only.
 """

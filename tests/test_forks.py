@@ -1,7 +1,10 @@
 #!/usr/bin/env python3
 """Tests of clients after a fork: a client is the parent's. In the child its calls fail at once, and its closing ends no connection.
 
-Each test has a folder of its own. The last line is `N passed, M failed`; a client whose compiler isn't there is skipped, and told so.
+What it tests: clients of a process that forks in the middle of another thread's or task's call: calls and closings
+in the child, and that the parent's connection stays open.
+
+Each test has its own folder. The last line is `N passed, M failed`; a client whose compiler isn't there is skipped, and told so.
 Standard library only.
 """
 import asyncio

@@ -1,7 +1,10 @@
 #!/usr/bin/env python3
 """Tests of frames, byte for byte: what requests say, and the answers.
 
-The bytes are those of docs/FORMATS.md. Each test has a folder of its own. The last line is `N passed, M failed`. Standard library only.
+What it tests: sessions that make each mode setting and lease call, byte for byte; the frame of each call and its
+line; layouts that are none; hellos; a full journal.
+
+The bytes are those of docs/FRAMES.md. Each test has its own folder. The last line is `N passed, M failed`. Standard library only.
 """
 import contextlib
 import socket

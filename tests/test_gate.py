@@ -2,7 +2,7 @@
 """Tests of the gate and of what builds the program: what `./test` runs and in which order, and what `tools/prove` prints. A script
 takes the place of the toolchain.
 
-Each test is a function of a folder of its own. The last line is `N passed, M failed`. Standard library only.
+Each test has its own folder. The last line is `N passed, M failed`. Standard library only.
 """
 import json
 import os

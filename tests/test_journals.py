@@ -1,7 +1,7 @@
 #!/usr/bin/env python3
-"""Tests of journals: what the device of a server or of a script noted is a script that checks itself.
+"""Tests of journals: what the device of a server or of a script recorded is a script that checks itself.
 
-Each test is a function of a folder of its own. The last line is `N passed, M failed`. Standard library only.
+Each test has its own folder. The last line is `N passed, M failed`. Standard library only.
 """
 import subprocess
 import sys

@@ -1,7 +1,11 @@
 #!/usr/bin/env python3
 """Tests of programs that call libdrm and know nothing of this server, with clients/libdrm loaded into them.
 
-Each test is a function of a folder of its own. The last line is `N passed, M failed`; where there is no C compiler, no libdrm with
+What it tests: unchanged programs: `modetest`, `drmdevice`, `drm_info`; 48 worked rows as calls of libdrm. Shared
+descriptors, forks, killed processes, passed buffers; errnos of missing calls. How nodes are found; writing to
+a node; system calls by their numbers; what a call costs compared with the C client.
+
+Each test has its own folder. The last line is `N passed, M failed`; where there is no C compiler, no libdrm with
 its headers, or no such program, a test is skipped, and told so. Standard library only.
 """
 import contextlib

@@ -1,6 +1,8 @@
 #!/usr/bin/env python3
 """Tests of cursors and gamma tables over clients/libdrm, on a device with a cursor plane for each CRTC.
 
+What it tests: cursors on cursor planes, and gamma tables, of one process that another one sees; by a lessee.
+
 Each case of tests/libdrm_cursors.c runs with the library and under the supervisor. Expectations are those of the kernel's core
 (drm_plane.c, drm_color_mgmt.c). The last line is `N passed, M failed`. If there is no C compiler or no libdrm with its headers, the
 tests are skipped, and if the kernel allows no supervisor, the other half. Standard library only.

@@ -1,6 +1,10 @@
 #!/usr/bin/env python3
 """Tests of the display of clients/libdrm: what several processes see of one device.
 
+What it tests: what two processes, with the library or under the supervisor, see of one display: modes, events,
+memory, masters, blanking. Closings, ends and killed processes; the limit of descriptors, wrong addresses, a
+server that stalls. 100,000 random requests and packets of four processes, with AddressSanitizer and UBSan.
+
 Each case of tests/libdrm_display.c runs with the library and under the supervisor. Expectations are what a kernel does, but for those of
 docs/LIBDRM.md. The last line is `N passed, M failed`. If there is no C compiler or no libdrm with its headers, the tests are skipped, and
 if the kernel allows no supervisor, the other half. Standard library only.
@@ -318,7 +322,8 @@ opens a link to a folder done, its file done, changes the mode done, owner done,
     def test_program_outlives_the_display(self):
         """It has stopped, and ends while a program waits for the answer to its opening, and to another request."""
         given, path = environment(self.folder), self.folder / "display"
-        with listening_server(self.folder), subprocess.Popen([display(), path], env=given) as displaying:
+        own = {**given, "LD_PRELOAD": ""}
+        with listening_server(self.folder), subprocess.Popen([display(), path], env=own) as displaying:
             wait_until(path.exists)
             with asking(env=given) as one:
                 displaying.send_signal(signal.SIGSTOP)

@@ -1,6 +1,10 @@
 #!/usr/bin/env python3
 """Tests of synchronisation objects and fences over clients/libdrm.
 
+What it tests: synchronisation objects and fences of two processes, with the library or under the supervisor:
+handles, points, waits, eventfds, descriptors of fences. Waits that are killed, interrupted and in time.
+Commits that wait for fences and make them.
+
 Each case of tests/libdrm_fences.c runs with the library and under the supervisor. Expectations are those of the kernel's core
 (drm_syncobj.c, sync_file.c, drm_atomic_uapi.c). The last line is `N passed, M failed`. If there is no C compiler or no libdrm with its
 headers, the tests are skipped, and if the kernel allows no supervisor, the other half. Standard library only.

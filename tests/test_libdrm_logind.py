@@ -1,7 +1,10 @@
 #!/usr/bin/env python3
 """Tests of clients/libdrm/logind, the stand-in for logind.
 
-The names of methods, properties and errors are those of org.freedesktop.login1(5). Each test is a function of a folder of its own. The
+What it tests: the stand-in for logind: its objects and errors, the devices of the program that has control, a
+switch of the session, what it writes for libsystemd, the command's status.
+
+The names of methods, properties and errors are those of org.freedesktop.login1(5). Each test has its own folder. The
 last line is `N passed, M failed`. If there can be no stand-in, no D-Bus or no library, the tests are skipped. Standard library only.
 """
 import os

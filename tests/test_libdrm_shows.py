@@ -1,7 +1,11 @@
 #!/usr/bin/env python3
 """Tests of frame loops behind clients/libdrm: flips, vertical blanking, events, and programs that show frames.
 
-Each test is a function of a folder of its own. The last line is `N passed, M failed`; where there is no C compiler, no libdrm with
+What it tests: page flips, vertical blanking and their events; the steps of a frame, counted in the journal.
+`drm_info` prints the mode that a running `sway` set. `ffmpeg` grabs frames. Frame loops of `modetest`,
+`vbltest`, `kmscube`, `mpv`, `sway` and `cage` for ten seconds each; `tinywl` lights both outputs.
+
+Each test has its own folder. The last line is `N passed, M failed`; where there is no C compiler, no libdrm with
 its headers, or no such program, a test is skipped, and told so. Standard library only.
 """
 import contextlib
@@ -135,7 +139,7 @@ def seated(given):
 
 
 @contextlib.contextmanager
-def compositor(folder):
+def compositor(folder, more=()):
     """A server and what a compositor of wlroots wants beside it: a runner of commands as somebody who isn't root, in a folder of that one's."""
     own = folder / "own"
     own.mkdir(0o700)
@@ -150,7 +154,7 @@ def compositor(folder):
         WLR_RENDERER="pixman",
         WLR_LIBINPUT_NO_DEVICES="1",
     )
-    with served(folder), seated(given) as somebody:
+    with served(folder, more=more), seated(given) as somebody:
         for path in (folder, *(folder / name for name in CLASSES)):
             path.chmod(0o777)
         yield own, lambda *words: run(*somebody, *words, env=given, cwd=own)

@@ -1,7 +1,11 @@
 #!/usr/bin/env python3
 """Tests of programs that make system calls themselves, under the supervisor of clients/libdrm.
 
-The errnos are those of the kernel's core. Each test is a function of a folder of its own. The last line is `N passed, M failed`. If there
+What it tests: programs in C, Rust and Go that make system calls themselves, under the supervisor. What they show,
+lease, map and share; their events; what is refused. The end of a client with its descriptor; the command's
+status and signals.
+
+The errnos are those of the kernel's core. Each test has its own folder. The last line is `N passed, M failed`. If there
 is no C compiler or no libdrm with its headers, or the kernel allows no supervisor, the tests are skipped. Standard library only.
 """
 import os

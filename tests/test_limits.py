@@ -1,7 +1,10 @@
 #!/usr/bin/env python3
 """Tests of devices and files at their limits: each number up to the last is given, and the next request is denied.
 
-Each test has a folder of its own. The last line is `N passed, M failed`. Standard library only.
+What it tests: 65,535 handles, objects and tokens, 49,000 names, objects of 4 GiB and more, and a checked file of
+10,000 lines; the next request is denied.
+
+Each test has its own folder. The last line is `N passed, M failed`. Standard library only.
 """
 import os
 import subprocess

@@ -1,7 +1,10 @@
 #!/usr/bin/env python3
 """Tests of the lines of scripts: what each says, and why a line can't be used.
 
-Each test has a folder of its own. The last line is `N passed, M failed`. Standard library only.
+What it tests: what each line of a script says, as its journal has it. 211 malformed lines with their columns, words
+and causes. In 148 of them several words don't fit, and the first is reported.
+
+Each test has its own folder. The last line is `N passed, M failed`. Standard library only.
 """
 import sys
 

@@ -1,7 +1,10 @@
 #!/usr/bin/env python3
 """Runs the usual linters of each language over the clients and the tests, with the configuration that is beside them.
 
-Each test is a function of a folder of its own. The last line is `N passed, M failed`; a linter that isn't there is skipped, and
+What it tests: black, isort, flake8, mypy and ruff over the Python client, rustfmt and clippy over the Rust client,
+clang-format and compilers' warnings over the C client; Python 3.8. A linter that is missing is skipped.
+
+Each test has its own folder. The last line is `N passed, M failed`; a linter that isn't there is skipped, and
 told so. Standard library only.
 """
 import os
@@ -161,7 +164,7 @@ def sources_in_c():
 
 
 # the programs of the tests in C that use the client
-PROGRAMS = ("session", "opening", "closed", "threads", "forks", "starts", "hostile", "fixture", "faults")
+PROGRAMS = ("session", "opening", "closed", "threads", "forks", "starts", "hostile", "fixture", "faults", "pictures")
 # the display of clients/libdrm, and its two front ends
 LIBDRM = ("clients/libdrm", *(f"clients/libdrm/{name}" for name in ("display", "fronts", "preload", "supervisor")))
 # the runner of scripts on a kernel, and the module
@@ -173,6 +176,7 @@ INCLUDED = {
     "the client after stdio": '#include <stdio.h>\n#include "drm_client.h"\n',
     "a server for a test": '#include "drm_testing.h"\n',
     "the numbers": '#include "drm_server.h"\n',
+    "pictures": '#include "drm_pictures.h"\n',
 }
 PROGRAM = "int main(void)\n{\n    return 0;\n}\n"
 

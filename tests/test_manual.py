@@ -1,7 +1,9 @@
 #!/usr/bin/env python3
 """Tests of the manual pages and the completions that tools/manual makes.
 
-Each test has a folder of its own. The last line is `N passed, M failed`. Standard library only.
+What it tests: manual pages and completions have the options of each command; pages by man and mandoc.
+
+Each test has its own folder. The last line is `N passed, M failed`. Standard library only.
 """
 import os
 import re
@@ -10,10 +12,23 @@ import sys
 sys.dont_write_bytecode = True
 from support import REPOSITORY, FolderCase, expect, run, run_tests, want_program  # noqa: E402
 
-COMMANDS = ("run", "check", "explain", "shrink", "serve", "test", "client", "audit", "watch")
+COMMANDS = (
+    "run",
+    "check",
+    "explain",
+    "shrink",
+    "serve",
+    "test",
+    "client",
+    "audit",
+    "watch",
+    "screenshot",
+    "plug",
+    "unplug",
+)
 PAGES = {
     "man1": ["zirkoshe.1", *(f"zirkoshe-{name}.1" for name in COMMANDS)],
-    "man5": ["zirkoshe-script.5"],
+    "man5": ["zirkoshe-script.5", "zirkoshe-frames.5"],
     "man7": ["zirkoshe-libdrm.7"],
 }
 
@@ -56,6 +71,31 @@ class ManualTests(FolderCase):
             joined = [[number, re.sub(r"\.$", "", text.strip().replace("\n", " "))] for number, text in found]
             expect(f"the statuses of {name}", joined, wanted)
             expect("how many there are", len(wanted) >= 3, True)
+
+    def test_pages_have_the_environment(self):
+        """Each has variables, and those that start a program its own."""
+        make(self.folder)
+        for name in PAGES["man1"]:
+            _, _, section = (self.folder / "man/man1" / name).read_text().partition(".SH ENVIRONMENT\n")
+            named = name[len("zirkoshe-") : -len(".1")]
+            variables = dict.fromkeys(("client", "audit"), "DRM_SERVER_ROOT")
+            variables.update(dict.fromkeys(("screenshot", "plug", "unplug"), "DRM_SERVER_DISPLAY"))
+            variable = variables.get(named, "DRM_SERVER_PROGRAM")
+            expect(f"whether {name} has {variable}", variable in section.partition(".SH ")[0], True)
+
+    def test_pages_name_the_commands_of_the_package(self):
+        """Not the tools behind them, and each sentence once."""
+        make(self.folder)
+        for name in COMMANDS:
+            text = (self.folder / f"man/man1/zirkoshe-{name}.1").read_text().replace("\\-", "-")
+            expect(f"tools in {name}", re.findall(r"(?m)^(?:with-server|drm-client|drm-audit)\b", text), [])
+            sentences = re.findall(r"[A-Z][^.]{40,}\.", " ".join(text.partition(".SH DESCRIPTION")[2].split()))
+            expect(f"sentences of {name} that are there twice", {s for s in sentences if sentences.count(s) > 1}, set())
+
+    def test_tables_have_their_heads(self):
+        make(self.folder)
+        text = (self.folder / "man/man5/zirkoshe-script.5").read_text()
+        expect("the head of the first table", "\\fIline\\fR\n\\fIevent\\fR\n" in text, True)
 
     def test_pages_are_set_without_a_warning(self):
         want_program("man")

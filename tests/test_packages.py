@@ -1,7 +1,11 @@
 #!/usr/bin/env python3
 """Tests of the clients as packages, each from an empty folder, with the files that docs/TESTING.md shows.
 
-Each test is a function of a folder of its own. The last line is `N passed, M failed`; one whose tools aren't there is skipped, and
+What it tests: pip with the pytest fixture, Cargo, pkg-config, CMake and Meson, each from an empty directory with
+the documents' files; a server of a test in each language. Servers in C of a test without standard streams,
+and 24 that start together.
+
+Each test has its own folder. The last line is `N passed, M failed`; one whose tools aren't there is skipped, and
 told so. Nothing is fetched. Standard library only.
 """
 import json
@@ -289,7 +293,7 @@ def test_buffer(drm_server):
         folder = self.folder
         environment = cargo(folder)
         printed = tried("cargo", "test", "--quiet", "--doc", cwd=copied_crate(folder), env=environment, timeout=300)
-        expect("the examples", "4 passed" in printed, True)
+        expect("the examples", "5 passed" in printed, True)
 
     def test_server_of_a_rust_test(self):
         """It ends when it is dropped, leaves nothing, and says why it can't be had."""

@@ -1,7 +1,11 @@
 #!/usr/bin/env python3
 """Tests of the built program: what it prints, how it ends, and what clients on its sockets see.
 
-Each test has a folder of its own. The last line is `N passed, M failed`. Standard library only.
+What it tests: command lines, statuses and output; which class each socket has; each mode setting and lease call
+over a socket. connections that end, break off, or are one too many; the files of `examples/rows` and
+`examples/linux`.
+
+Each test has its own folder. The last line is `N passed, M failed`. Standard library only.
 """
 import contextlib
 import multiprocessing

@@ -1,7 +1,10 @@
 #!/usr/bin/env python3
 """Tests of the recipes for CI services and containers in examples/ci, each in an empty folder with an archive of the program.
 
-Each test has a folder of its own. The last line is `N passed, M failed`; one whose tools aren't there is skipped, and told so.
+What it tests: the steps of the recipes for GitHub, GitLab and a container image, each in an empty folder or root
+with an archive.
+
+Each test has its own folder. The last line is `N passed, M failed`; one whose tools aren't there is skipped, and told so.
 """
 import json
 import os

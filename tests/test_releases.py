@@ -1,7 +1,11 @@
 #!/usr/bin/env python3
 """Tests of the packages that tools/package, tools/debian-package and tools/wheel make: names, what they say of a proof, and bytes.
 
-Each test has a folder of its own. The last line is `N passed, M failed`; one whose tools aren't there is skipped, and told so.
+What it tests: archive, Debian package and wheel of a program that isn't proved: what their names, their metadata
+and the program say. A release, twice: equal bytes, sums, the page. Tools that fail in the middle. A Debian
+package in an empty root and by lintian, a wheel in an empty environment and by twine.
+
+Each test has its own folder. The last line is `N passed, M failed`; one whose tools aren't there is skipped, and told so.
 Standard library only.
 """
 import hashlib
@@ -41,7 +45,10 @@ PARTS = (
     "VERSION",
     "README.md",
     "CHANGELOG.md",
+    "CONTRIBUTING.md",
     "SECURITY.md",
+    "bench",
+    "edits",
     "clients",
     "docs",
     "examples",
@@ -134,10 +141,24 @@ def unpacked_archive(path, folder):
     return folder / path.name[: -len(".tar.gz")]
 
 
+def broken_links(folder):
+    """The relative links of pages in a folder that lead to nothing, each with its page."""
+    links = (
+        (page, target.partition("#")[0])
+        for page in folder.rglob("*.md")
+        for target in re.findall(r"\]\(([^)\s]+)\)", page.read_text())
+        if "://" not in target
+    )
+    return [f"{page.relative_to(folder)}: {path}" for page, path in links if not (page.parent / path).exists()]
+
+
 class ArchiveTests(PackageCase):
     """Tests: the archive of an unproved program, and the image that is made of one."""
 
     tool = "package"
+
+    def test_archive_has_no_broken_link(self):
+        expect("broken links", broken_links(unpacked_archive(self.made, self.folder)), [])
 
     def test_archive_says_that_it_is_unproved(self):
         expect("its name", self.made.name, f"zirkoshe-{VERSION}+unproved-x86_64-linux.tar.gz")
@@ -207,7 +228,7 @@ class ReleaseTests(FolderCase):
             KIT,
             commit,
             digest,
-            "- A closing leaves its client no right.",
+            "- A closed client keeps no rights.",
             f"]({archive[:-7]}/docs/PROMISES.md)",
         ):
             expect(f"whether the page has {text}", text in page, True)
@@ -286,6 +307,9 @@ class DebianTests(PackageCase):
         root = self.folder / "root"
         expect_end(run("dpkg-deb", "-x", self.made, root), 0, "", "")
         return root
+
+    def test_debian_package_has_no_broken_link(self):
+        expect("broken links", broken_links(self.unpacked()), [])
 
     def test_debian_package_says_that_it_is_unproved(self):
         expect("its name", self.made.name, f"zirkoshe_{VERSION}~unproved_amd64.deb")

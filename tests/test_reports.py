@@ -1,7 +1,10 @@
 #!/usr/bin/env python3
 """Tests of tools/check: several files are checked at once, with the output of `drm_server check`, and a JUnit report.
 
-Each test has a folder of its own. The last line is `N passed, M failed`. Standard library only.
+What it tests: files that `zirkoshe check` checks at once: the output and status of `drm_server check`, and JUnit
+reports.
+
+Each test has its own folder. The last line is `N passed, M failed`. Standard library only.
 """
 import errno
 import os

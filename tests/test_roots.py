@@ -1,6 +1,9 @@
 #!/usr/bin/env python3
 """Tests in a root that has Debian 12 and the Debian package alone: a compositor, and the image of the container file.
 
+What it tests: only if ZIRKOSHE_DEBIAN_ROOT names a root that `tests/debian_root` made: `weston` on both outputs,
+from the Debian package; the image of the container file, built from the root.
+
     ZIRKOSHE_DEBIAN_ROOT=FOLDER tests/test_roots.py
 
 `tests/debian_root FOLDER` makes the root, which takes some minutes. Without one the tests are skipped. The last line is

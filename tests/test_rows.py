@@ -1,9 +1,12 @@
 #!/usr/bin/env python3
 """Tests of rows: scripts with the answers that the rules give, on the built program and on the device of plain_device.py.
 
+What it tests: the rows of `tests/rows.txt` and the worked rows, line by line as the plain device has them; journals
+of rows; a lessee through a thousand owners.
+
 The rows are those of tests/rows.txt, and the worked rows.
 
-Each test has a folder of its own. The last line is `N passed, M failed`. Standard library only.
+Each test has its own folder. The last line is `N passed, M failed`. Standard library only.
 """
 import sys
 

@@ -1,7 +1,10 @@
 #!/usr/bin/env python3
 """Tests of a server that accepts any number of connections until it is told to end.
 
-Each test has a folder of its own. The last line is `N passed, M failed`. Standard library only.
+What it tests: 1,000 connections one after the other, 64 at once on each socket, and those beyond them. Connections
+without a thread or a descriptor. The end of such a server; the full journal.
+
+Each test has its own folder. The last line is `N passed, M failed`. Standard library only.
 """
 import contextlib
 import ctypes
@@ -94,7 +97,7 @@ def files_of(started):
 
 
 class ServingTests(FolderCase):
-    """Tests of a server that accepts any number of connections until it is told to end."""
+    """Tests of a server that accepts any number of connections until it is ended."""
 
     def test_thousand_connections_one_after_the_other(self):
         """The server has no more threads and files after them than before."""

@@ -1,7 +1,10 @@
 #!/usr/bin/env python3
 """Tests of `drm_server shrink`: scripts and journals that become shorter, and lines that have no shorter script.
 
-Each test has a folder of its own. The last line is `N passed, M failed`. Standard library only.
+What it tests: scripts and journals that become shorter: what is left passes its check, and each line is needed;
+100,000 steps within 10 seconds.
+
+Each test has its own folder. The last line is `N passed, M failed`. Standard library only.
 """
 import re
 import sys

@@ -1,6 +1,9 @@
 #!/usr/bin/env python3
 """A soak: hostile clients in three languages on one server after another, and what a monitor client and the server notice of them.
 
+What it tests: hostile clients in three languages on one server after another: what a monitor client waits, and that
+threads and descriptors return to what they were; `tests/test_soak.py 10` takes ten minutes.
+
     tests/test_soak.py MINUTES
 
 Without MINUTES it takes one. The clients connect, ask, break off, flood, take no answers, pass descriptors, and are stopped and killed.

@@ -1,7 +1,11 @@
 #!/usr/bin/env python3
 """Tests of the steps of a journal: how its file is read as it grows, and what a replay shows of it.
 
-Each test is a function of a folder of its own. The last line is `N passed, M failed`. Standard library only.
+What it tests: journals that are read as they grow, are cut off or are replaced. The rows of a replay are those of
+an audit over a socket, after each step of a session. Steps that were denied or only read change no row:
+twelve random sessions.
+
+Each test has its own folder. The last line is `N passed, M failed`. Standard library only.
 """
 import contextlib
 import os

@@ -1,7 +1,10 @@
 #!/usr/bin/env python3
 """Tests of the live page of a journal's steps: what its server answers, and what a browser shows.
 
-Each test is a function of a folder of its own. The last line is `N passed, M failed`. Standard library only.
+What it tests: the page of steps: what it answers and refuses, and in a browser its list, keys, filters, pictures
+and explanations. 100,000 steps; roles and names; contrast; dark and narrow windows.
+
+Each test has its own folder. The last line is `N passed, M failed`. Standard library only.
 """
 import contextlib
 import json

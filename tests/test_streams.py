@@ -1,6 +1,9 @@
 #!/usr/bin/env python3
 """Tests of the built program over input and output that come in pieces, end, fail and are interrupted, at each byte.
 
+What it tests: input and output that arrive in pieces, end, fail and are interrupted, at each byte; stopped and
+killed programs; requests far ahead of their answers; 48 connections on one processor.
+
 Pipes and sockets do some of that by themselves; for the rest `tests/cut.c` is loaded into the program. It wants Linux and a C
 compiler. The last line is `N passed, M failed`. Standard library only.
 """

@@ -1,7 +1,10 @@
 #!/usr/bin/env python3
 """Tests of clients that threads share: no thread gets another's answer, and what is no answer to the request is an error.
 
-Each test is a function of a folder of its own. The last line is `N passed, M failed`; a client whose compiler isn't there is
+What it tests: threads that share a client get their own answers and refusals; closing waits for its turn; answers
+of another kind than the call's are refused.
+
+Each test has its own folder. The last line is `N passed, M failed`; a client whose compiler isn't there is
 skipped, and told so. Standard library only.
 """
 import struct

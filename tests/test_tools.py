@@ -2,7 +2,10 @@
 """Tests of the tools that need no server: the constants of the clients, the examples of doc comments, the lemmas that nothing
 leads to, and the English of the documents.
 
-Each test is a function of a folder of its own. The last line is `N passed, M failed`. Standard library only.
+What it tests: the clients' numbers and calls are those of the server's sources and of the documents. Each tool's
+`--help` has its usage, exit statuses and examples.
+
+Each test has its own folder. The last line is `N passed, M failed`. Standard library only.
 """
 import collections
 import errno
@@ -24,7 +27,7 @@ from blocks import tables_of  # noqa: E402
 CONSTANTS = REPOSITORY / "tools/constants"
 # a function and a derive cost the gate some two seconds each, and a test in Rust more: how many lines of tests in Rust, tests,
 # and functions and derives of all crates there are at most, and how many there should be
-MOST = {"lines of tests": (6_945, 6_000), "tests": (110, 150), "functions and derives": (3_320, 2_700)}
+MOST = {"lines of tests": (6_919, 6_000), "tests": (101, 150), "functions and derives": (3_146, 2_700)}
 FUNCTION = re.compile(r"^\s*(?:pub(?:\(\w+\))? )?(?:const )?fn \w+", re.MULTILINE)
 DERIVES = re.compile(r"#\[derive\(([^)]*)\)\]")
 # what the constants are read from
@@ -106,6 +109,8 @@ print(json.dumps([found, support.find_program.cache_info().misses]))
 
 
 PROSE = REPOSITORY / "tools/prose"
+# how many words and long sentences the comments of tools, tests and clients have at most; the goal is none
+MOST_OLD_WORDS = 402
 # a page with one of each thing that the tool lists, and with what it leaves out
 PAGE = """# What stands here
 
@@ -329,7 +334,7 @@ class ToolsTests(FolderCase):
     def test_sources_are_those_of_the_documents(self):
         """The rows of calls, answers, rules and audits, which the documents have in words of their own."""
         found = table()
-        rows = [row for rows in tables_of("docs/FORMATS.md") for row in rows if re.fullmatch(r"0x[0-9A-F]{2}", row[0])]
+        rows = [row for rows in tables_of("docs/FRAMES.md") for row in rows if re.fullmatch(r"0x[0-9A-F]{2}", row[0])]
         expect(
             "calls",
             [(row[0], row[2]) for row in rows],
@@ -342,7 +347,7 @@ class ToolsTests(FolderCase):
             [", ".join(flags.get(flag, flag) for flag in call["flags"]) or "none" for call in found["calls"]],
         )
         answers = [
-            row[0] for rows in tables_of("docs/FORMATS.md") for row in rows if re.fullmatch(r"0x[0-9A-F]{4}", row[0])
+            row[0] for rows in tables_of("docs/FRAMES.md") for row in rows if re.fullmatch(r"0x[0-9A-F]{4}", row[0])
         ]
         expect(
             "answers", answers[-len(found["answers"]) :], [f"0x{number:04X}" for number in found["answers"].values()]
@@ -527,11 +532,52 @@ tools/prose-exceptions.txt:3: excuses nothing
         exceptions.write_text("page.md | Nobody came. Somebody |\n")
         expect_end(prose(folder), 2, "prose: tools/prose-exceptions.txt:1: malformed\n", "")
 
+    def test_contents_are_written(self):
+        """Into long pages, once, and out of pages that became short."""
+        page = self.folder / "page.md"
+        body = "Some words.\n\n## First `part`\n\n```text\n## not a heading\n```\n\n## Second\n\n" + "word\n" * 1500
+        page.write_text(f"# Title\n\n{body}")
+        tool = (REPOSITORY / "tools/contents", "--repository", self.folder)
+        expect_end(run(*tool, "--check"), 1, "", "page.md: the table of contents is out of date\n")
+        for _ in range(2):
+            expect_end(run(*tool), 0, "", "")
+            table = "- [First `part`](#first-part)\n- [Second](#second)\n"
+            marks = ("<!-- written by tools/contents -->\n\n", "\n<!-- end -->\n\n")
+            expect("the page", page.read_text(), f"# Title\n\n{marks[0]}{table}{marks[1]}{body}")
+        page.write_text(page.read_text().replace("word\n", ""))
+        expect_end(run(*tool), 0, "", "")
+        expect("the short page", page.read_text(), "# Title\n\n" + body.replace("word\n", ""))
+
+    def test_prose_of_sources_is_listed(self):
+        """Comments and docstrings, and no other strings and no code."""
+        sources = {
+            "clients/one.c": "/* Nobody\n * reads it. */\nint behind; // behind\n",
+            "tests/one.py": '"""One.\n\nIt stands there.\n"""\nTEXT = """\nnobody\n"""\n# somebody\n',
+            "tools/one": "#!/bin/sh\n# nobody\necho nobody\n",
+        }
+        for name, text in sources.items():
+            path = self.folder / name
+            path.parent.mkdir()
+            path.write_text(text)
+        listed = """tools/one:2: "nobody": write the client, the caller, no client
+tests/one.py:3: "stands": write is in, represents, belongs to, is attached to
+tests/one.py:8: "somebody": write the client, the caller, no client
+clients/one.c:1: "Nobody": write the client, the caller, no client
+4 in all
+"""
+        expect_end(prose(self.folder, "--sources"), 0, "", listed)
+
+    def test_prose_of_sources_gets_no_older(self):
+        ran = run(PROSE, "--sources")
+        count = int(re.search(r"(\d+) in all$", ran.stdout.strip())[1])
+        expect(f"whether {count} are at most {MOST_OLD_WORDS}", count <= MOST_OLD_WORDS, True)
+
     def test_prose_counts_words(self):
         folder = self.folder
         (folder / "a.md").write_text("# One two\n")
-        (folder / "b.md").write_text("three | four\n")
-        expect_end(prose(folder, "--words"), 0, "", "      3 a.md\n      3 b.md\n      6 in all\n")
+        written = "<!-- written by tools/one -->\nfive six\n"
+        (folder / "b.md").write_text(f"three | four\n\n{written}<!-- end -->\n\nseven\n\n{written}")
+        expect_end(prose(folder, "--words"), 0, "", "      3 a.md\n      4 b.md\n      7 in all\n")
         ran = prose(folder, "none.md")
         expect("status and output", (ran.returncode, ran.stdout), (2, ""))
 

@@ -1,7 +1,12 @@
 #!/usr/bin/env python3
 """Tests of what a server writes while it runs: the trace of its calls, and the journal that grows.
 
-Each test has a folder of its own. The last line is `N passed, M failed`. Standard library only.
+What it tests: the trace of a server with 16 clients and 90,000 steps, line by line against the journal. A journal
+that grows, also up to SIGKILL, takes a part of a line, or is changed while the server runs. A trace without a
+reader, with a slow one, while a call is stalled and while a client takes no answers. Faults that are left
+out; colour.
+
+Each test has its own folder. The last line is `N passed, M failed`. Standard library only.
 """
 import contextlib
 import os

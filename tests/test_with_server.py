@@ -1,9 +1,13 @@
 #!/usr/bin/env python3
-"""Tests of tools/with-server, which runs a command beside a server.
+"""Tests of tools/with-server, which runs a command next to a server.
 
-Each test is a function of a folder of its own. The last line is `N passed, M failed`. Standard library only.
+What it tests: `tools/with-server`: its status, signals, and that it leaves nothing.
+
+Each test has its own folder. The last line is `N passed, M failed`. Standard library only.
 """
 import contextlib
+import importlib.machinery
+import importlib.util
 import os
 import shutil
 import signal
@@ -274,6 +278,8 @@ class WithServerTests(FolderCase):
         for words, reason in (
             (["--cards", "65", "true"], "argument --cards: '65' is not a number from 0 to 64"),
             (["--udev", "true"], "--udev requires --libdrm"),
+            (["--libdrm", "--seat", "seat9", "true"], "--seat requires --udev"),
+            (["--render", "true"], "--render requires --libdrm or --seccomp"),
             (
                 ["--libdrm", "--udev", "--seat", "a/b", "true"],
                 "'a/b' is not the name of a seat: use letters and digits, such as seat9",
@@ -282,6 +288,18 @@ class WithServerTests(FolderCase):
             ran = run(WITH_SERVER, *words, env=within(self.folder))
             expect(f"{words}", (ran.returncode, ran.stdout), (2, ""))
             expect("the reason", ran.stderr.endswith(f"with-server: error: {reason}\n"), True)
+
+    def test_advice_about_a_full_journal(self):
+        """It names the limit, and at the highest one a server for each part."""
+        loader = importlib.machinery.SourceFileLoader("with_server", str(WITH_SERVER))
+        module = importlib.util.module_from_spec(importlib.util.spec_from_loader(loader.name, loader))
+        loader.exec_module(module)
+        for options, advice in (
+            (["--limits", "8 8 8 8 8 8 8 4"], "set the last number of --limits higher, at most 100000"),
+            (["--limits", "8 8 8 8 8 8 8 100000"], "use a server for each part of the command"),
+            ([], "use a server for each part of the command"),
+        ):
+            expect(f"the advice for {options}", module.advice_for(options).startswith(advice), True)
 
     def test_with_server_whose_path_is_too_long(self):
         folder = self.folder

@@ -1,6 +1,6 @@
 """What `drm_server explain --line` prints of the last line of a script, for each kind of fact: a table.
 
-The facts are worked out from docs/RULES.md and docs/FORMATS.md. No page has the wording of the sentences, so that is the sources'.
+The facts are worked out from docs/RULES.md and docs/COMMANDS.md. No page has the wording of the sentences, so that is the sources'.
 
 A row has the kinds of its facts, the script, the rule that denies its last line, and the facts. The lines of a script are divided by
 semicolons. The kinds are those of the enums of drm_refusals, and the subjects of drm_explanations. Steps are counted from 1 in each.

@@ -73,7 +73,7 @@ def server_answers(server: str, script: Script, words: List[str]) -> Dict[int, s
 
 
 def ask_server(device: Device, scripts: List[Script]) -> Asked:
-    """What the server answers to scripts of a device, each on a device of its own."""
+    """Returns what the server answers to scripts of a device, each on its own device."""
     server = find_program()
     with tempfile.NamedTemporaryFile("w", suffix=".topology") as file:
         file.write(device.text)

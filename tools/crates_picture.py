@@ -25,7 +25,7 @@ MARGIN, GAP_X, GAP_Y, PAD, LINE = 24.0, 22.0, 40.0, 10.0, 18.0
 # how wide a letter is at most, on the average of a line
 LETTER = 7.0
 SWEEPS = 40
-# the boxes stand beside the names of the layers
+# the boxes are next to the names of the layers
 LEFT = 110.0
 
 Box = Tuple[str, ...]
@@ -63,7 +63,7 @@ def read_layers(text: str) -> List[Layer]:
 
 
 def reduced(crates: Dict[str, List[str]]) -> Dict[str, List[str]]:
-    """Without the libraries that another library stands on."""
+    """Returns the libraries on which no other library depends."""
     below: Dict[str, Set[str]] = {}
 
     def all_below(name: str) -> Set[str]:
@@ -83,7 +83,7 @@ def boxes_of(crates: Dict[str, List[str]], layers: List[Layer]) -> Tuple[List[Bo
     above = {name: tuple(other for other in crates if name in crates[other]) for name in crates}
     groups: Dict[Tuple[object, ...], List[str]] = {}
     for name, libraries in crates.items():
-        # at the top, with nothing above, each has a box of its own
+        # at the top, with nothing above, each has its own box
         key = (tuple(libraries), above[name], layer_of[name]) if libraries and above[name] else (name,)
         groups.setdefault(key, []).append(name)
     box_of = {name: tuple(group) for group in groups.values() for name in group}
@@ -92,7 +92,7 @@ def boxes_of(crates: Dict[str, List[str]], layers: List[Layer]) -> Tuple[List[Bo
 
 
 def depths_of(boxes: List[Box], arrows: List[Arrow]) -> Dict[Box, int]:
-    """How many rows below the first of its layer each box stands: one below the lowest of the layer that stand on it."""
+    """Returns the row of each box within its layer: one below the lowest of the layer that depend on it."""
     found: Dict[Box, int] = {}
 
     def depth(box: Box) -> int:
@@ -104,7 +104,7 @@ def depths_of(boxes: List[Box], arrows: List[Arrow]) -> Dict[Box, int]:
 
 
 def rows_of(boxes: List[Box], arrows: List[Arrow], layers: List[Layer]) -> Tuple[Dict[Box, int], List[int]]:
-    """The row of each box, from the top, and the first row of each layer, which stands below those that come after it."""
+    """Returns the row of each box, from the top, and the first row of each layer, which is below the later ones."""
     rows: Dict[Box, int] = {}
     firsts: List[int] = []
     for layer in reversed(layers):
@@ -149,7 +149,7 @@ def spread(row: List[Node], wishes: Dict[Node, float]) -> Dict[Node, float]:
 
 
 def middles_of(ways: List[List[Node]]) -> Dict[Node, float]:
-    """Where the middle of each node stands: again and again beside its neighbours."""
+    """Returns the middle of each node, which is moved next to its neighbours again and again."""
     near = neighbours_of(ways)
     count = max(node.row for node in near) + 1
     rows = [sorted((node for node in near if node.row == row), key=lambda node: node.names) for row in range(count)]

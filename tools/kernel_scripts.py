@@ -126,7 +126,7 @@ def read_topology(text: str) -> Tuple[Topology, FrozenSet[int]]:
 # random scripts
 
 
-# what each driver takes, and the server answers as it does: a pitch of whole pixels, and a handle that is there
+# what each driver takes, and the server answers as it does: a pitch of whole pixels, and a handle that exists
 SHAPE, FRAMEBUFFER = (64, 64, 32), (64, 64, 256, 32)
 HANDLE_CALLS = ("addfb", "gem_flink", "prime_export", "stamp_read", "stamp_write", "gem_close", "destroy_dumb")
 MODE_CALLS = {word for word, row in CALLS.items() if row[0] >= 0xA0} - {"create_dumb", "destroy_dumb"}
@@ -196,7 +196,7 @@ class Drawing:
         self.lines: List[str] = []
 
     def mode_fields(self, word: str, framebuffer: int) -> Tuple[int, ...]:
-        """Random fields of a call of mode objects, on a topology of its own."""
+        """Returns random fields of a call of mode objects, on its own topology."""
         draw, top = self.draw, self.device.topology
         thing = draw.randint(0, max(top.fixed()) + 1)
         planes = sorted(set(top.planes) - self.device.cursors)
@@ -267,7 +267,7 @@ class Drawing:
         return current if current and self.draw.random() < 0.5 else labels
 
     def is_answered_alike(self, line: str) -> bool:
-        """Whether all devices answer the line alike. If not, they are as they were before it."""
+        """Returns whether all devices answer the line alike. If not, they are unchanged."""
         before = pickle.dumps((self.plain, self.kernels))
         wanted = compared(str(self.plain.line(line)))
         if all(compared(str(kernel.line(line))) == wanted for kernel in self.kernels):
@@ -301,7 +301,7 @@ def random_script(seed: int, device: Device = MODULE) -> Script:
     return Script(f"random {seed}", drawing.lines, {})
 
 
-# what a kernel is given
+# what a kernel receives
 
 
 class Modelled(NamedTuple):

@@ -6,7 +6,7 @@ from typing import Dict, List
 
 from kernel_scripts import Script
 
-# how the client `x` of each kind comes about, on the test topology
+# how the client `x` of each kind is opened, on the test topology
 STANDINGS: Dict[str, List[str]] = {
     "current master": ["open x card"],
     "current master that is root": ["open x root"],

@@ -29,13 +29,16 @@ the same scripts on kernels and on the server, and compares the answers. It fail
 does not say so, or if a difference of this page does not show. With `--update` it writes this page from the files of
 `examples/linux`. [LIBDRM](LIBDRM.md) lists further differences for programs over libdrm.
 
-Each file of `examples/linux` is a script, in [this form](FORMATS.md#scripts), with the server's answers. A comment
+Each file of `examples/linux` is a script, in [this form](SCRIPTS.md), with the server's answers. A comment
 `# linux: ANSWER` has the different answer of the kernels to the line above it. `# linux 6.12: ANSWER` has that of one
 series. `errno N` is any refusal. This command checks the server's answers:
 
     ./drm_server check examples/linux/*.script
 
 The scripts in `examples/linux/laptop` are for the topology `examples/topologies/laptop.topology`.
+
+The differences are in [requests](#requests), [buffers](#buffers), [masters](#masters), [mode setting](#mode-setting),
+[leases](#leases) and [limits](#limits).
 
 """
 
@@ -87,12 +90,17 @@ def rows_of(subject: str) -> List[Tuple[str, ...]]:
     return [row_of(path, page) for path, page in pages if page.subject == subject]
 
 
+def subject_table(subject: str) -> str:
+    """The table of a subject, between the marks of what a tool writes (tools/prose)."""
+    head = ("rule", "in a kernel", "here", "a line, and both answers")
+    return f"<!-- written by tools/beside-kernel -->\n\n{table(head, rows_of(subject))}\n<!-- end -->\n"
+
+
 def page_of(compared: str) -> str:
     """The page, with this text about what was compared."""
-    head = ("rule", "in a kernel", "here", "a line, and both answers")
-    parts = [INTRODUCTION, COMPARED, "\n", compared, NEXT, SCRIPTS, table(head, rows_of(REPRESENTED))]
+    parts = [INTRODUCTION, COMPARED, "\n", compared, NEXT, SCRIPTS, subject_table(REPRESENTED)]
     for subject in SUBJECTS:
-        parts += [f"\n## {subject}\n\n", table(head, rows_of(subject))]
+        parts += [f"\n## {subject}\n\n", subject_table(subject)]
     return "".join(parts)
 
 

@@ -2,7 +2,7 @@
 """Writes what is made from the worked rows: lemmas of drm_model, and files of examples/rows.
 
 tools/worked_rows.txt has the rows, and describes their form. From each row the tool makes a lemma, which the check of
-drm_model refuses if the definitions give other answers, and a file for `drm_server check`.
+drm_model refuses if the definitions have other answers, and a file for `drm_server check`.
 
 Exit status:
   0  the files were written, or are up to date
@@ -27,7 +27,7 @@ PROOFS = CRATES / "drm_model/proofs"
 SCRIPTS = REPOSITORY / "examples/rows"
 # all files that are made
 MADE = ((PROOFS, "Worked*.antt"), (SCRIPTS, "*.script"))
-# the word of each answer that is told by numbers, and the variant that stands for it
+# the word of each answer that is written as numbers, and its variant
 ANSWERS = {
     "done": "Done",
     "closed": "Closed",
@@ -48,8 +48,7 @@ PROGRAM = "64 65535 65535 65535 65535 64 64 100000".split()
 OPENINGS = {"open": "true", "open2": "false"}
 # the files of specs/ whose definitions a computation opens; all of them where none is named
 OPENED = {
-    "drm_index_array": ["Least"],
-    "drm_lists": [],
+    "drm_index_array": ["Least", "Orders", "Numbers", "Chains"],
     "drm_modes": ["Numbers"],
     "drm_table": [],
     "drm_model": [],
@@ -96,14 +95,14 @@ class Group(NamedTuple):
 
 
 class Refusal(NamedTuple):
-    """A rule, or what stands apart from the rules."""
+    """Returns a rule, or a fault."""
 
     name: str
     number: int
 
 
 class Definitions(NamedTuple):
-    """What a row's lines stand for: each rule and each thing apart by its number, the variant and the number of each call by its
+    """Returns what a row's lines mean: each rule and each thing apart by its number, the variant and the number of each call by its
     word, and the definitions that a computation opens, by crate and file."""
 
     rules: Dict[int, Refusal]
@@ -192,7 +191,7 @@ def listed_ids(text: str) -> str:
 
 
 def answer_term(text: str, known: Definitions) -> str:
-    """An answer as the definitions tell it."""
+    """Returns an answer as the definitions write it."""
     word, *rest = text.split()
     if word == "apart":
         return term("Err", known.aparts[int(rest[0])].name)
@@ -229,7 +228,7 @@ def call_term(word: str, fields: List[str], known: Definitions) -> str:
 
 
 def event_term(asked: str, labels: Dict[str, str], known: Definitions) -> str:
-    """A line of a script as an event; a label that none has stands for client 0."""
+    """Returns a line of a script as an event. An unbound label is client 0."""
     first, *rest = asked.split()
     if first in OPENINGS:
         return term("Open", opening_term(rest[1:], OPENINGS[first]))
@@ -300,7 +299,7 @@ def limits_term(row: Row) -> str:
 
 
 def lemma(row: Row, known: Definitions) -> str:
-    """The lemma that the definitions give a row's answers: each event with its answer."""
+    """Returns the lemma that a row's answers follow from the definitions: each event with its answer."""
     steps = (
         f"    ({event}, {bare(answer_term(line.answer, known))}) ∷\n"
         for event, line in zip(event_terms(row, known), row.lines)
@@ -358,7 +357,7 @@ def made_files(groups: List[Group]) -> Dict[pathlib.Path, str]:
 
 
 def superfluous_files(files: Dict[pathlib.Path, str]) -> List[pathlib.Path]:
-    """Files among those that are made which no row gives."""
+    """Returns the made files that no row has."""
     return sorted(path for folder, pattern in MADE for path in folder.glob(pattern) if path not in files)
 
 

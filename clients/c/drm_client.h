@@ -26,7 +26,7 @@
  *
  * A strict ISO C mode (-std=c11) hides the system's monotonic clock if another header comes first
  * and _POSIX_C_SOURCE isn't defined. Time limits are then exact to 10 milliseconds only.
- * docs/FORMATS.md has the calls and the frames.
+ * docs/FRAMES.md has the calls and the frames.
  */
 #ifndef ZIRKOSHE_DRM_CLIENT_H
 #define ZIRKOSHE_DRM_CLIENT_H

@@ -81,7 +81,7 @@ static inline void zirkoshe_destroy_turn(struct zirkoshe_turn *turn)
  * thread of the parent may have had. */
 static inline bool zirkoshe_is_own(const struct zirkoshe_client *client)
 {
-    return client->process == getpid();
+    return client->process == ZIRKOSHE_GETPID();
 }
 
 /* Waits until no other thread asks, and lets none ask until zirkoshe_unlock. Calls of the same
@@ -422,7 +422,7 @@ static inline int zirkoshe_open_by(struct zirkoshe_client *client, const char *p
     int failed;
 
     client->socket = -1;
-    client->process = getpid();
+    client->process = ZIRKOSHE_GETPID();
     client->number = 0;
     client->rule = 0;
     client->timeout = timeout;

@@ -132,9 +132,13 @@ static inline int64_t zirkoshe_now(void)
 #endif
 }
 
-/* A program may wait, send and receive by other functions with the arguments of these. */
+/* A program may wait, send and receive by other functions with the arguments of these. If it has no
+ * children, it may also name a function in place of getpid that makes no system call. */
 #ifndef ZIRKOSHE_POLL
 #define ZIRKOSHE_POLL poll
+#endif
+#ifndef ZIRKOSHE_GETPID
+#define ZIRKOSHE_GETPID getpid
 #endif
 #ifndef ZIRKOSHE_SEND
 #define ZIRKOSHE_SEND send

@@ -1,6 +1,6 @@
 /* The numbers of drm_server's protocol, for C99 and C++. Written by tools/constants from the
- * sources of the server. docs/FORMATS.md has the calls, the answers and the frames,
- * docs/RULES.md the rules. */
+ * sources of the server. docs/FRAMES.md has the calls, the answers and the frames, docs/RULES.md
+ * the rules. */
 #ifndef ZIRKOSHE_DRM_SERVER_H
 #define ZIRKOSHE_DRM_SERVER_H
 

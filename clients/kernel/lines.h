@@ -1,4 +1,4 @@
-/* The lines of a script, and the answers that they expect (docs/FORMATS.md, Scripts). */
+/* The lines of a script, and the answers that they expect (docs/SCRIPTS.md). */
 #ifndef DRM_SCRIPT_LINES_H
 #define DRM_SCRIPT_LINES_H
 

@@ -17,49 +17,59 @@ static int refuse(const struct connection *connection, const struct drm_mode_ato
                : 0;
 }
 
-/* Reads an element of a list of the caller's. */
-static int read_element(uint64_t list, uint32_t at, void *element, size_t size)
+/* The lists of a commit */
+struct lists {
+    struct caller_list objects, counts, properties, values;
+};
+
+static int read_element(const struct caller_list *list, uint32_t at, void *element, size_t size)
 {
-    return list == 0 ? -EFAULT : copy_from_caller(element, list + at * size, size);
+    if (at >= list->size / size)
+        return -EFAULT;
+    memcpy(element, list->bytes + at * size, size);
+    return 0;
 }
 
 /* Reads a property of an object, with its value. */
-static int read_property(struct commit *commit, const struct drm_mode_atomic *asked,
-                         const struct part *part, uint32_t at)
+static int read_property(struct commit *commit, const struct lists *lists, const struct part *part,
+                         uint32_t at)
 {
     uint32_t property;
     uint64_t value;
-    int failed = read_element(asked->props_ptr, at, &property, sizeof property);
+    int failed = read_element(&lists->properties, at, &property, sizeof property);
 
     if (!failed)
-        failed = read_element(asked->prop_values_ptr, at, &value, sizeof value);
+        failed = read_element(&lists->values, at, &value, sizeof value);
     return failed ? failed : commit_set(commit, part, property, value);
 }
 
 /* Reads the next object with its properties, which begin at `*at`. */
-static int read_object(struct commit *commit, const struct drm_mode_atomic *asked, uint32_t object,
+static int read_object(struct commit *commit, const struct lists *lists, uint32_t object,
                        uint32_t *at)
 {
     struct part part;
     uint32_t id, count;
-    int failed = read_element(asked->objs_ptr, object, &id, sizeof id);
+    int failed = read_element(&lists->objects, object, &id, sizeof id);
 
     if (!failed)
-        failed = read_element(asked->count_props_ptr, object, &count, sizeof count);
+        failed = read_element(&lists->counts, object, &count, sizeof count);
     if (!failed)
         failed = commit_add(commit, id, &part);
     for (; !failed && count > 0; count--, ++*at)
-        failed = read_property(commit, asked, &part, *at);
+        failed = read_property(commit, lists, &part, *at);
     return failed;
 }
 
 static int read_objects(struct commit *commit, const struct drm_mode_atomic *asked)
 {
+    const struct lists lists = {
+        caller_list_at(asked->objs_ptr), caller_list_at(asked->count_props_ptr),
+        caller_list_at(asked->props_ptr), caller_list_at(asked->prop_values_ptr)};
     uint32_t object, at = 0;
     int failed = 0;
 
     for (object = 0; !failed && object < asked->count_objs; object++)
-        failed = read_object(commit, asked, object, &at);
+        failed = read_object(commit, &lists, object, &at);
     return failed;
 }
 

@@ -78,6 +78,11 @@ void object_drop(struct object *object)
     free(object);
 }
 
+int object_memory(const struct object *object)
+{
+    return object->fd < 0 ? -1 : fcntl(object->fd, F_DUPFD_CLOEXEC, 0);
+}
+
 static struct buffer *find(const struct buffers *buffers, uint32_t handle)
 {
     struct buffer *found = buffers->first;

@@ -40,6 +40,9 @@ void buffers_name(struct connection *connection, uint32_t handle, uint32_t name)
 struct object *buffers_use(struct connection *connection, uint32_t handle);
 void object_drop(struct object *object);
 
+/* Opens the memory of an object; -1 if it has none yet. */
+int object_memory(const struct object *object);
+
 /* Forgets a handle that was closed. Its mappings and PRIME descriptors stay. */
 void buffers_forget(struct connection *connection, uint32_t handle);
 

@@ -12,6 +12,15 @@
 int copy_from_caller(void *to, uint64_t address, size_t size);
 int copy_to_caller(uint64_t address, const void *from, size_t size);
 
+/* A list in the caller's memory, as far as the request has it. */
+struct caller_list {
+    const uint8_t *bytes;
+    size_t size;
+};
+
+/* Returns what the request has of the caller's memory from an address on, which may be nothing. */
+struct caller_list caller_list_at(uint64_t address);
+
 /* The descriptor at a position of those that came with the request, or -1. It is closed after the
  * answer. */
 int caller_descriptor(uint32_t at);

@@ -34,12 +34,9 @@ int commit_signals_at(struct commit *commit, uint32_t crtc, uint64_t address)
 
 bool commit_signals(const struct commit *commit, uint32_t crtc_id)
 {
-    const struct topology *topology = commit->topology;
-    uint32_t at = 0;
+    uint32_t place = topology_place(commit->topology, crtc_id);
 
-    while (at < topology->count_crtcs && topology->crtcs[at] != crtc_id)
-        at++;
-    return at < topology->count_crtcs && commit->fences.addresses[at] != 0;
+    return place < MOST_OBJECTS && commit->fences.addresses[place] != 0;
 }
 
 struct fence *commit_pending(const struct commit *commit)

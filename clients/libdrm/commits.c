@@ -14,15 +14,8 @@ static int look_at_crtcs(struct connection *connection, const struct topology *t
     int failed = 0;
 
     for (at = 0; !failed && at < topology->count_crtcs; at++) {
-        uint32_t id = topology->crtcs[at];
-
-        if (crtc_of(id)->is_sure)
-            continue;
-        failed = zirkoshe_drmModeGetCrtc(&connection->client, id, &fb_id);
-        if (failed)
-            return failed;
-        crtc_is_seen(id, fb_id != 0);
-        state_crtc_is_seen(id, fb_id);
+        if (!crtc_of(topology->crtcs[at])->is_sure)
+            failed = crtc_look(connection, topology->crtcs[at], &fb_id);
     }
     return failed;
 }
@@ -59,25 +52,13 @@ int commit_begin(struct commit *commit, struct connection *connection)
     return failed;
 }
 
-/* The position of a CRTC that the caller sees. */
-static uint32_t position_of_crtc(const struct topology *topology, uint32_t crtc_id)
-{
-    uint32_t at = 0;
-
-    while (at < topology->count_crtcs - 1 && topology->crtcs[at] != crtc_id)
-        at++;
-    return at;
-}
-
 /* Puts a CRTC into the commit, if there is one. */
 static void add_crtc(struct commit *commit, uint32_t crtc_id)
 {
-    uint32_t at;
+    uint32_t place = topology_place(commit->topology, crtc_id);
 
-    for (at = 0; at < commit->topology->count_crtcs; at++) {
-        if (commit->topology->crtcs[at] == crtc_id)
-            commit->crtcs |= (uint64_t)1 << at;
-    }
+    if (place < MOST_OBJECTS)
+        commit->crtcs |= (uint64_t)1 << place;
 }
 
 /* Checks a CRTC_ID: 0, or a CRTC that the caller sees. A lessee cannot find out whether another
@@ -151,7 +132,7 @@ static int set_of_crtc(struct commit *commit, uint32_t crtc_id, enum property_id
         crtc->gamma_id = (uint32_t)value;
         return 0;
     default: /* OUT_FENCE_PTR */
-        return commit_signals_at(commit, position_of_crtc(commit->topology, crtc_id), value);
+        return commit_signals_at(commit, topology_place(commit->topology, crtc_id), value);
     }
 }
 

@@ -31,6 +31,7 @@ struct crtc {
     bool is_sure;     /* no request can have changed what it shows since the server last said so */
     bool is_set;      /* the mode is what a program set, and not a guess */
     int64_t flip_due; /* when the flip that is now begun completes, or 0 */
+    uint64_t frames;  /* how many flips and commits there were */
     struct blanking blanking;      /* while it is lit, */
     struct drm_mode_modeinfo mode; /* by this mode */
 };

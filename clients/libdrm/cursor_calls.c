@@ -94,7 +94,10 @@ static struct plane_state plane_of(const struct cursor *cursor, uint32_t fb_id)
 static int add_image(struct connection *connection, const struct drm_mode_cursor *asked,
                      uint32_t *fb_id)
 {
-    struct framebuffer image = {asked->width, asked->height, DRM_FORMAT_ARGB8888};
+    struct framebuffer image = {.width = asked->width,
+                                .height = asked->height,
+                                .format = DRM_FORMAT_ARGB8888,
+                                .pitch = asked->width * PIXEL};
     int failed;
 
     *fb_id = 0;

@@ -10,7 +10,7 @@
 static int refuse_framebuffer(uint32_t crtc_id, const struct framebuffer *framebuffer)
 {
     const struct plane_state *primary = state_of_primary(state_now(), crtc_id);
-    struct framebuffer shown = {0, 0, 0};
+    struct framebuffer shown = {0};
 
     if (!crtc_of(crtc_id)->is_set)
         return 0;
@@ -48,10 +48,9 @@ static int refuse_flip(struct connection *connection,
         || (flip->flags & DRM_MODE_PAGE_FLIP_TARGET) == DRM_MODE_PAGE_FLIP_TARGET
         || (flip->sequence != 0 && !has_target))
         return -EINVAL;
-    failed = zirkoshe_drmModeGetCrtc(&connection->client, flip->crtc_id, &fb_id);
+    failed = crtc_look(connection, flip->crtc_id, &fb_id);
     if (failed)
         return failed;
-    crtc_is_seen(flip->crtc_id, fb_id != 0);
     if (has_target)
         return -EINVAL;
     if (fb_id == 0)
@@ -90,6 +89,7 @@ int64_t complete_flip(struct connection *connection, uint32_t crtc_id, bool has_
     struct blanking blanking = crtc_of(crtc_id)->blanking;
     struct vblank vblank = {blanking.count, time_now()};
 
+    crtc_of(crtc_id)->frames++;
     if (crtc_is_surely_lit(crtc_id)) {
         vblank = vblank_of(&blanking, last_vblank(&blanking, vblank.time).sequence + 1);
         crtc_of(crtc_id)->flip_due = vblank.time;

@@ -8,7 +8,10 @@
 int answer_add_fb(struct connection *connection, void *argument)
 {
     struct drm_mode_fb_cmd *fb = argument;
-    struct framebuffer added = {fb->width, fb->height, format_of_depth(fb->bpp, fb->depth)};
+    struct framebuffer added = {.width = fb->width,
+                                .height = fb->height,
+                                .format = format_of_depth(fb->bpp, fb->depth),
+                                .pitch = fb->pitch};
     int failed = zirkoshe_drmModeAddFB(&connection->client, fb->width, fb->height, fb->pitch,
                                        fb->bpp, fb->handle, &fb->fb_id);
 
@@ -46,7 +49,10 @@ static bool is_plain(const struct drm_mode_fb_cmd2 *fb)
 int answer_add_fb2(struct connection *connection, void *argument)
 {
     struct drm_mode_fb_cmd2 *fb = argument;
-    struct framebuffer added = {fb->width, fb->height, fb->pixel_format};
+    struct framebuffer added = {.width = fb->width,
+                                .height = fb->height,
+                                .format = fb->pixel_format,
+                                .pitch = fb->pitches[0]};
     uint32_t bits = bits_of_format(fb->pixel_format);
     int failed;
 
@@ -95,7 +101,7 @@ int answer_get_fb2(struct connection *connection, void *argument)
 {
     struct drm_mode_fb_cmd2 *fb = argument;
     uint32_t fb_id = fb->fb_id;
-    struct framebuffer known = {0, 0, 0};
+    struct framebuffer known = {0};
     struct zirkoshe_fb found;
     int failed = get_fb(connection, fb_id, &found);
 

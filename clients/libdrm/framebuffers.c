@@ -50,6 +50,7 @@ void framebuffer_is_added(struct connection *connection, uint32_t fb_id,
     remove_known(&all[fb_id]);
     all[fb_id] =
         (struct added){connection->cookie, *framebuffer, buffers_use(connection, handle), false};
+    all[fb_id].framebuffer.client = connection->client.number;
 }
 
 void framebuffer_is_removed(uint32_t fb_id)
@@ -108,13 +109,13 @@ int framebuffer_find(struct connection *connection, uint32_t fb_id, struct frame
     failed = zirkoshe_drmModeGetFB(client, fb_id, &found);
     if (failed && client->rule == ZIRKOSHE_RULE_FULL) {
         client->rule = 0;
-        *framebuffer = (struct framebuffer){UINT32_MAX, UINT32_MAX, 0};
+        *framebuffer = (struct framebuffer){.width = UINT32_MAX, .height = UINT32_MAX};
         return 0;
     }
     if (!failed && found.handle != 0)
         failed = zirkoshe_drmCloseBufferHandle(client, found.handle);
     if (!failed)
-        *framebuffer = (struct framebuffer){found.width, found.height, 0};
+        *framebuffer = (struct framebuffer){.width = found.width, .height = found.height};
     return failed;
 }
 

@@ -9,6 +9,8 @@
 struct framebuffer {
     uint32_t width, height;
     uint32_t format; /* 0 if it is not known */
+    uint32_t pitch;
+    uint32_t client; /* the server's number of the one that added it */
 };
 
 /* Notes that a connection added or removed a framebuffer, or is closed. */

@@ -18,14 +18,11 @@ struct row {
     bool reads; /* it changes nothing that another request can see, or is done at once */
 };
 
-#define ROW(name, answer, wants)                                                                   \
-    {                                                                                              \
-        DRM_IOCTL_##name, #name, answer, wants, false                                              \
-    }
-#define READING_ROW(name, answer, wants)                                                           \
-    {                                                                                              \
-        DRM_IOCTL_##name, #name, answer, wants, true                                               \
-    }
+/* A row in the place of its request's number */
+#define PLACED(name, answer, wants, reads)                                                         \
+    [_IOC_NR(DRM_IOCTL_##name)] = {DRM_IOCTL_##name, #name, answer, wants, reads}
+#define ROW(name, answer, wants) PLACED(name, answer, wants, false)
+#define READING_ROW(name, answer, wants) PLACED(name, answer, wants, true)
 
 static const struct row rows[] = {
     READING_ROW(VERSION, answer_version, WANTS_NOTHING),
@@ -105,13 +102,9 @@ union argument {
 
 static const struct row *row_of(uint32_t request)
 {
-    size_t at;
+    size_t at = _IOC_NR(request);
 
-    for (at = 0; at < sizeof rows / sizeof rows[0]; at++) {
-        if (_IOC_NR(rows[at].request) == _IOC_NR(request))
-            return &rows[at];
-    }
-    return NULL;
+    return at < sizeof rows / sizeof rows[0] && rows[at].answer != NULL ? &rows[at] : NULL;
 }
 
 /* MODE_LIST_LESSEES changes nothing, and only a current caller may make it. */

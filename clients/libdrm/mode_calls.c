@@ -1,6 +1,7 @@
 /* Answers to requests for mode objects and for what they show. */
 #include "answers.h"
 
+#include "connectors.h"
 #include "crtcs.h"
 #include "framebuffers.h"
 #include "late_commits.h"
@@ -25,6 +26,11 @@ static void leave_out_cursors(struct zirkoshe_resources *found)
     found->count_fbs = count;
 }
 
+/* Returns one of the lists of resources. */
+#define GIVE_IDS(kind, kinds)                                                                      \
+    give(resources->kind##_id_ptr, &resources->count_##kinds, found.kinds, found.count_##kinds,    \
+         sizeof *found.kinds)
+
 int answer_get_resources(struct connection *connection, void *argument)
 {
     struct drm_mode_card_res *resources = argument;
@@ -36,18 +42,12 @@ int answer_get_resources(struct connection *connection, void *argument)
     resources->min_width = resources->min_height = LEAST_SIDE;
     resources->max_width = resources->max_height = MOST_SIDE;
     leave_out_cursors(&found);
-    failed = give(resources->fb_id_ptr, &resources->count_fbs, found.fbs, found.count_fbs,
-                  sizeof *found.fbs);
+    failed = GIVE_IDS(fb, fbs);
     if (!failed)
-        failed = give(resources->crtc_id_ptr, &resources->count_crtcs, found.crtcs,
-                      found.count_crtcs, sizeof *found.crtcs);
+        failed = GIVE_IDS(crtc, crtcs);
     if (!failed)
-        failed = give(resources->connector_id_ptr, &resources->count_connectors, found.connectors,
-                      found.count_connectors, sizeof *found.connectors);
-    if (!failed)
-        failed = give(resources->encoder_id_ptr, &resources->count_encoders, found.encoders,
-                      found.count_encoders, sizeof *found.encoders);
-    return failed;
+        failed = GIVE_IDS(connector, connectors);
+    return failed ? failed : GIVE_IDS(encoder, encoders);
 }
 
 /* If the CRTC shows something, reports the position and the mode that a program set, or else 0, 0
@@ -57,12 +57,10 @@ int answer_get_crtc(struct connection *connection, void *argument)
     struct drm_mode_crtc *crtc = argument;
     const struct plane_state *primary;
     uint32_t fb_id;
-    int failed = zirkoshe_drmModeGetCrtc(&connection->client, crtc->crtc_id, &fb_id);
+    int failed = crtc_look(connection, crtc->crtc_id, &fb_id);
 
     if (failed)
         return failed;
-    crtc_is_seen(crtc->crtc_id, fb_id != 0);
-    state_crtc_is_seen(crtc->crtc_id, fb_id);
     primary = state_of_primary(state_now(), crtc->crtc_id);
     crtc->fb_id = fb_id;
     crtc->x = fb_id != 0 ? primary->src_x >> 16 : 0;
@@ -197,14 +195,16 @@ int answer_get_encoder(struct connection *connection, void *argument)
     return 0;
 }
 
-/* Reports a monitor of 96 dots per inch. The name of the connector is its id. */
+/* Reports a monitor of 96 dots per inch, if there is one. The name of the connector is its id. */
 static void describe(struct drm_mode_get_connector *connector)
 {
+    bool is_plugged = connector_is_plugged(connector->connector_id);
+
     connector->connector_type = DRM_MODE_CONNECTOR_VIRTUAL;
     connector->connector_type_id = connector->connector_id;
-    connector->connection = 1;
-    connector->mm_width = 508;
-    connector->mm_height = 286;
+    connector->connection = is_plugged ? 1 : 2;
+    connector->mm_width = is_plugged ? 508 : 0;
+    connector->mm_height = is_plugged ? 286 : 0;
     connector->subpixel = 0;
 }
 
@@ -223,6 +223,8 @@ int answer_get_connector(struct connection *connection, void *argument)
     describe(connector);
     connector->encoder_id = crtc_id != 0 ? encoder_id : 0;
     modes = all_modes(&count);
+    if (!connector_is_plugged(connector->connector_id))
+        count = 0;
     /* the core returns all modes, or none */
     if (connector->count_modes < count)
         connector->count_modes = 0;

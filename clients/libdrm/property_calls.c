@@ -19,19 +19,17 @@ static bool may_be(uint32_t wanted, uint32_t kind)
 
 /* What kind of object has this id, of those that have properties: the one that is asked for, or
  * any. */
-static int find_object(struct zirkoshe_client *client, uint32_t id, uint32_t wanted, uint32_t *kind)
+static int find_object(struct connection *connection, uint32_t id, uint32_t wanted, uint32_t *kind)
 {
+    struct zirkoshe_client *client = &connection->client;
     struct zirkoshe_plane plane;
     uint32_t number;
     int failed = -ENOENT;
 
     if (may_be(wanted, *kind = DRM_MODE_OBJECT_PLANE))
         failed = zirkoshe_drmModeGetPlane(client, id, &plane);
-    if (failed && may_be(wanted, *kind = DRM_MODE_OBJECT_CRTC)) {
-        failed = zirkoshe_drmModeGetCrtc(client, id, &number);
-        if (!failed)
-            state_crtc_is_seen(id, number);
-    }
+    if (failed && may_be(wanted, *kind = DRM_MODE_OBJECT_CRTC))
+        failed = crtc_look(connection, id, &number);
     if (failed && may_be(wanted, *kind = DRM_MODE_OBJECT_CONNECTOR))
         failed = zirkoshe_drmModeGetConnector(client, id, &number);
     /* an encoder is found, and has no properties */
@@ -120,7 +118,7 @@ int answer_get_object_properties(struct connection *connection, void *argument)
 {
     struct drm_mode_obj_get_properties *given = argument;
     uint32_t kind;
-    int failed = find_object(&connection->client, given->obj_id, given->obj_type, &kind);
+    int failed = find_object(connection, given->obj_id, given->obj_type, &kind);
 
     return failed ? failed : give_properties(connection, given, kind);
 }
@@ -181,10 +179,10 @@ int answer_get_property(struct connection *connection, void *argument)
 
 /* What the core looks at when a property is set by itself. DPMS and link-status can be set, and
  * change nothing. GAMMA_LUT can be set too. */
-static int set_property(struct zirkoshe_client *client, uint32_t id, uint32_t kind,
+static int set_property(struct connection *connection, uint32_t id, uint32_t kind,
                         uint32_t property, uint64_t value)
 {
-    int failed = find_object(client, id, kind, &kind);
+    int failed = find_object(connection, id, kind, &kind);
 
     if (failed)
         return failed;
@@ -201,16 +199,15 @@ int answer_set_object_property(struct connection *connection, void *argument)
 {
     const struct drm_mode_obj_set_property *asked = argument;
 
-    return set_property(&connection->client, asked->obj_id, asked->obj_type, asked->prop_id,
-                        asked->value);
+    return set_property(connection, asked->obj_id, asked->obj_type, asked->prop_id, asked->value);
 }
 
 int answer_set_connector_property(struct connection *connection, void *argument)
 {
     const struct drm_mode_connector_set_property *asked = argument;
 
-    return set_property(&connection->client, asked->connector_id, DRM_MODE_OBJECT_CONNECTOR,
-                        asked->prop_id, asked->value);
+    return set_property(connection, asked->connector_id, DRM_MODE_OBJECT_CONNECTOR, asked->prop_id,
+                        asked->value);
 }
 
 int answer_create_blob(struct connection *connection, void *argument)

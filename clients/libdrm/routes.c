@@ -1,7 +1,6 @@
 /* Which CRTC drives what now. */
 #include "routes.h"
 
-#include "crtcs.h"
 #include "states.h"
 
 #include <errno.h>
@@ -9,15 +8,11 @@
 /* What a CRTC shows, of those that the caller sees: 0 for another one. */
 static int find_shown(struct connection *connection, uint32_t crtc_id, uint32_t *fb_id)
 {
-    int failed = zirkoshe_drmModeGetCrtc(&connection->client, crtc_id, fb_id);
+    int failed = crtc_look(connection, crtc_id, fb_id);
 
-    if (failed) {
+    if (failed)
         *fb_id = 0;
-        return failed == -ENOENT ? 0 : failed;
-    }
-    crtc_is_seen(crtc_id, *fb_id != 0);
-    state_crtc_is_seen(crtc_id, *fb_id);
-    return 0;
+    return failed == -ENOENT ? 0 : failed;
 }
 
 /* Whether a connector is the only one that a CRTC can drive. */

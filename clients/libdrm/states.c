@@ -3,6 +3,7 @@
 
 #include "answers.h"
 #include "blobs.h"
+#include "crtcs.h"
 
 /* The key of a primary plane is that of its CRTC, with this bit. Ids of the server are smaller. */
 #define PRIMARY_OF 0x80000000u
@@ -175,7 +176,7 @@ void state_plane_is_set(const struct plane_state *plane)
 
 /* The framebuffer of a client of the server is shown in the mode that the CRTC last had, or else in
  * the preferred one. */
-void state_crtc_is_seen(uint32_t crtc_id, uint32_t fb_id)
+static void note_seen(uint32_t crtc_id, uint32_t fb_id)
 {
     struct plane_state *plane = state_of_primary(&now, crtc_id);
     struct crtc_state *crtc = state_of_crtc(&now, crtc_id);
@@ -195,6 +196,17 @@ void state_crtc_is_seen(uint32_t crtc_id, uint32_t fb_id)
         plane->src_w = plane->crtc_w << 16;
         plane->src_h = plane->crtc_h << 16;
     }
+}
+
+int crtc_look(struct connection *connection, uint32_t crtc_id, uint32_t *fb_id)
+{
+    int failed = zirkoshe_drmModeGetCrtc(&connection->client, crtc_id, fb_id);
+
+    if (failed)
+        return failed;
+    crtc_is_seen(crtc_id, *fb_id != 0);
+    note_seen(crtc_id, *fb_id);
+    return 0;
 }
 
 void state_fb_is_removed(uint32_t fb_id)

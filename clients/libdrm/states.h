@@ -56,14 +56,16 @@ struct state *state_now(void);
 void state_copy(struct state *to, const struct state *from);
 void state_change(const struct state *before, const struct state *after);
 
-/* Notes what the older calls changed: a MODE_SETCRTC or a flip, a gamma table, a MODE_SETPLANE,
- * the framebuffer that the server reports for a CRTC, and that a framebuffer is removed. */
+/* Asks the server what a CRTC shows, and notes it; 0, or a negative errno. */
+int crtc_look(struct connection *connection, uint32_t crtc_id, uint32_t *fb_id);
+
+/* Notes what the older calls changed: a MODE_SETCRTC or a flip, a gamma table, a MODE_SETPLANE, and
+ * that a framebuffer is removed. */
 void state_crtc_is_set(uint32_t crtc_id, uint32_t connector_id, const struct plane_state *primary,
                        const struct drm_mode_modeinfo *mode);
 void state_crtc_flips(uint32_t crtc_id, uint32_t fb_id);
 void state_gamma_is_set(uint32_t crtc_id, uint32_t blob_id);
 void state_plane_is_set(const struct plane_state *plane);
-void state_crtc_is_seen(uint32_t crtc_id, uint32_t fb_id);
 void state_fb_is_removed(uint32_t fb_id);
 
 #endif

@@ -184,8 +184,7 @@ const struct seen_connector *topology_connector(const struct topology *topology,
     return NULL;
 }
 
-/* The position of a CRTC, or MOST_OBJECTS. */
-static uint32_t place_of(const struct topology *topology, uint32_t id)
+uint32_t topology_place(const struct topology *topology, uint32_t id)
 {
     uint32_t at = 0;
 
@@ -196,12 +195,12 @@ static uint32_t place_of(const struct topology *topology, uint32_t id)
 
 bool topology_has_crtc(const struct topology *topology, uint32_t id)
 {
-    return place_of(topology, id) < MOST_OBJECTS;
+    return topology_place(topology, id) < MOST_OBJECTS;
 }
 
 bool topology_may_drive(const struct topology *topology, uint32_t possible_crtcs, uint32_t crtc_id)
 {
-    uint32_t place = place_of(topology, crtc_id);
+    uint32_t place = topology_place(topology, crtc_id);
 
     return place < 32 && (possible_crtcs >> place & 1) != 0;
 }

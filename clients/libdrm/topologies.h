@@ -38,7 +38,9 @@ int topology_find(struct connection *connection, const struct topology **topolog
 const struct seen_plane *topology_plane(const struct topology *topology, uint32_t id);
 const struct seen_connector *topology_connector(const struct topology *topology, uint32_t id);
 
-/* Returns whether the client sees the CRTC, and whether a mask has it. */
+/* Returns the position of a CRTC, or MOST_OBJECTS; whether the client sees the CRTC, and whether a
+ * mask has it. */
+uint32_t topology_place(const struct topology *topology, uint32_t id);
 bool topology_has_crtc(const struct topology *topology, uint32_t id);
 bool topology_may_drive(const struct topology *topology, uint32_t possible_crtcs, uint32_t crtc_id);
 

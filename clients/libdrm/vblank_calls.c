@@ -3,6 +3,7 @@
 
 #include "crtcs.h"
 #include "ioctls.h"
+#include "states.h"
 
 /* how long the core waits for a vertical blanking at most */
 #define MOST_WAIT ((int64_t)3 * SECOND)
@@ -21,11 +22,10 @@ struct goal {
 static int find_blanking(struct connection *connection, struct goal *goal)
 {
     uint32_t fb_id;
-    int failed = zirkoshe_drmModeGetCrtc(&connection->client, goal->crtc_id, &fb_id);
+    int failed = crtc_look(connection, goal->crtc_id, &fb_id);
 
     if (failed)
         return failed;
-    crtc_is_seen(goal->crtc_id, fb_id != 0);
     if (fb_id == 0)
         return -EINVAL;
     goal->blanking = crtc_of(goal->crtc_id)->blanking;

@@ -24,25 +24,33 @@ uint8_t *written_add(struct written *written, size_t size)
     return grown + written->length - size;
 }
 
-int copy_from_caller(void *to, uint64_t address, size_t size)
+struct caller_list caller_list_at(uint64_t address)
 {
     const struct packet *packet = &task_now()->packet;
+    struct caller_list longest = {NULL, 0};
     const uint8_t *bytes = packet->lists;
     size_t at;
 
-    if (size == 0)
-        return 0;
     for (at = 0; at < MOST_LISTS; at++) {
         const struct list *list = &packet->ask.lists[at];
+        uint64_t before = address - list->address;
 
-        if (address >= list->address && address - list->address <= list->size
-            && size <= list->size - (address - list->address)) {
-            memcpy(to, bytes + (address - list->address), size);
-            return 0;
-        }
+        if (address >= list->address && before < list->size && list->size - before > longest.size)
+            longest = (struct caller_list){bytes + before, list->size - before};
         bytes += list->size;
     }
-    return -EFAULT;
+    return longest;
+}
+
+int copy_from_caller(void *to, uint64_t address, size_t size)
+{
+    const struct caller_list found = caller_list_at(address);
+
+    if (size > found.size)
+        return -EFAULT;
+    if (size > 0)
+        memcpy(to, found.bytes, size);
+    return 0;
 }
 
 int copy_to_caller(uint64_t address, const void *from, size_t size)

@@ -48,6 +48,7 @@ bool turns_are_done(void);
 /* What the main loop waits for */
 enum source_kind {
     SOURCE_LISTENER,
+    SOURCE_CONTROL,
     SOURCE_PEER,
     SOURCE_PROXY,
     SOURCE_CHANNEL,

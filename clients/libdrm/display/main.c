@@ -1,7 +1,9 @@
 /* zirkoshe-display SOCKET [DESCRIPTOR]: what programs see of the server. The environment names the
- * server's sockets. A supervisor speaks for its callers on the other end of the descriptor, a
- * packet socket. The display runs until SIGTERM or SIGINT, or until that end is closed everywhere.
+ * server's sockets. SOCKET.control is for the user that started the display. A supervisor speaks
+ * for its callers on the other end of the descriptor, a packet socket. The display runs until
+ * SIGTERM or SIGINT, or until that end is closed everywhere.
  */
+#include "controls.h"
 #include "display.h"
 
 #include "late_commits.h"
@@ -105,6 +107,9 @@ static void see_ready(struct source *source)
     case SOURCE_LISTENER:
         accept_opener(source->fd);
         break;
+    case SOURCE_CONTROL:
+        control_accept(source->fd);
+        break;
     case SOURCE_PEER:
         peer_end((struct peer *)source);
         break;
@@ -181,10 +186,10 @@ static void run(void)
         task_poll(NULL, 0, LOOK);
 }
 
-static int listen_at(const char *path)
+static int listen_at(const char *path, int type, mode_t mode)
 {
     struct sockaddr_un address = {.sun_family = AF_UNIX};
-    int fd = socket(AF_UNIX, SOCK_SEQPACKET | SOCK_CLOEXEC | SOCK_NONBLOCK, 0), on = 1;
+    int fd = socket(AF_UNIX, type | SOCK_CLOEXEC | SOCK_NONBLOCK, 0), on = 1;
 
     if (strlen(path) >= sizeof address.sun_path) {
         errno = ENAMETOOLONG;
@@ -192,8 +197,8 @@ static int listen_at(const char *path)
     }
     strcpy(address.sun_path, path);
     if (fd < 0 || setsockopt(fd, SOL_SOCKET, SO_PASSCRED, &on, sizeof on) != 0
-        || bind(fd, (struct sockaddr *)&address, sizeof address) != 0 || chmod(path, 0666) != 0
-        || listen(fd, 128) != 0)
+        || fchmod(fd, mode) != 0 || bind(fd, (struct sockaddr *)&address, sizeof address) != 0
+        || chmod(path, mode) != 0 || listen(fd, 128) != 0)
         return -1;
     return fd;
 }
@@ -227,23 +232,25 @@ static bool attend_to_supervisor(const char *word)
     return peer != NULL;
 }
 
-static bool begin_to_attend(const char *path)
+static bool begin_to_attend(const char *path, const char *control)
 {
     static struct source sources[] = {{.kind = SOURCE_LISTENER}, {.kind = SOURCE_EVENTS},
                                       {.kind = SOURCE_FENCES},   {.kind = SOURCE_BUFFERS},
-                                      {.kind = SOURCE_ENDS},     {.kind = SOURCE_SIGNALS}};
+                                      {.kind = SOURCE_ENDS},     {.kind = SOURCE_SIGNALS},
+                                      {.kind = SOURCE_CONTROL}};
     pthread_t thread;
     bool is_ready = true;
     size_t at;
 
     set = epoll_create1(EPOLL_CLOEXEC);
     ends = epoll_create1(EPOLL_CLOEXEC);
-    sources[0].fd = listen_at(path);
+    sources[0].fd = listen_at(path, SOCK_SEQPACKET, 0666);
     sources[1].fd = events_timer();
     sources[2].fd = fences_timer();
     sources[3].fd = buffers_watch();
     sources[4].fd = ends;
     sources[5].fd = attend_to_signals();
+    sources[6].fd = listen_at(control, SOCK_STREAM, 0600);
     for (at = 0; at < sizeof sources / sizeof sources[0]; at++)
         is_ready = is_ready && source_add(&sources[at], EPOLLIN);
     turn_prepare(&closings);
@@ -254,6 +261,7 @@ static bool begin_to_attend(const char *path)
 
 int main(int count, char **words)
 {
+    char control[sizeof(struct sockaddr_un)];
     struct rlimit most;
 
     if (count != 2 && count != 3) {
@@ -268,11 +276,13 @@ int main(int count, char **words)
 
     task_begin(&task);
     display_lock();
-    if (!begin_to_attend(words[1]) || (count == 3 && !attend_to_supervisor(words[2]))) {
+    snprintf(control, sizeof control, "%s" CONTROL_SUFFIX, words[1]);
+    if (!begin_to_attend(words[1], control) || (count == 3 && !attend_to_supervisor(words[2]))) {
         fprintf(stderr, PROGRAM ": can't listen at %s: %s\n", words[1], strerror(errno));
         return 1;
     }
     run();
     unlink(words[1]);
+    unlink(control);
     return 0;
 }

@@ -98,7 +98,8 @@ static int send_packet(int fd, const struct sent *sent, const int *files)
 
     if (sent->other >= 0)
         descriptors[count++] = sent->other;
-    memcpy(descriptors + count, files, sent->count * sizeof *files);
+    if (sent->count > 0)
+        memcpy(descriptors + count, files, sent->count * sizeof *files);
     count += sent->count;
     if (sent->aside >= 0)
         descriptors[count++] = sent->aside;
@@ -115,16 +116,20 @@ static int send_packet(int fd, const struct sent *sent, const int *files)
     return sendmsg(fd, &message, MSG_NOSIGNAL | MSG_DONTWAIT) < 0 ? error_of_sending() : 0;
 }
 
-/* Receives a packet with descriptors. Returns its length, or a negative errno. */
+/* Receives a packet with descriptors. Returns its length, or a negative errno: -EFAULT if the
+ * struct can't be written to. */
 static ssize_t receive(struct channel *channel, struct answer *answer)
 {
     union {
         struct cmsghdr head;
         char room[CMSG_SPACE(sizeof answer->descriptors)];
     } control;
-    struct iovec part = {channel->bytes, sizeof channel->bytes};
-    struct msghdr message = {.msg_iov = &part,
-                             .msg_iovlen = 1,
+    size_t size = answer->argument.iov_len;
+    struct iovec parts[] = {{&answer->reply, sizeof answer->reply},
+                            answer->argument,
+                            {channel->bytes + size, sizeof channel->bytes - size}};
+    struct msghdr message = {.msg_iov = parts,
+                             .msg_iovlen = sizeof parts / sizeof parts[0],
                              .msg_control = &control,
                              .msg_controllen = sizeof control};
     ssize_t length = recvmsg(channel->fd, &message, MSG_CMSG_CLOEXEC);
@@ -156,12 +161,11 @@ static int take_answer(struct channel *channel, struct answer *answer)
         if (length == -EINTR)
             continue;
         if (length < (ssize_t)sizeof answer->reply)
-            return -ENODEV;
-        memcpy(&answer->reply, channel->bytes, sizeof answer->reply);
+            return length == -EFAULT ? -EFAULT : -ENODEV;
         if (answer->reply.tag != channel->tag)
             close_descriptors(answer);
     }
-    answer->bytes = channel->bytes + sizeof answer->reply;
+    answer->bytes = channel->bytes;
     answer->length = (size_t)length - sizeof answer->reply;
     if (answer->count == answer->reply.descriptors)
         return 0;
@@ -233,7 +237,8 @@ static int exchange(struct sent *sent, int fd, bool is_callers, struct answer *a
     /* the display alone has the other end from now on, so that its end is seen */
     close_other(sent);
     failed = take_answer(channel, answer);
-    channel->number = answer->reply.channel;
+    if (failed != -EFAULT)
+        channel->number = answer->reply.channel;
     return failed;
 }
 
@@ -268,7 +273,7 @@ int channel_note(struct channel *channel, int other, int way)
                         .length = sizeof sent.ask,
                         .other = other,
                         .aside = -1};
-    struct answer answer;
+    struct answer answer = {.argument = {NULL, 0}};
     int failed = exchange(&sent, way, false, &answer);
 
     end_sent(&sent);
@@ -278,7 +283,7 @@ int channel_note(struct channel *channel, int other, int way)
 /* Asks for a descriptor. */
 static int ask_for_descriptor(const struct ask *ask, int fd, bool is_callers, uint64_t *place)
 {
-    struct answer answer;
+    struct answer answer = {.argument = {NULL, 0}};
     struct sent sent;
     int failed = begin_packet(&sent, ask);
 
@@ -481,8 +486,8 @@ static void trace(const uint8_t *line, size_t length)
         sigtimedwait(&broken, NULL, &at_once);
 }
 
-/* Writes the struct, whose request may have made a descriptor, and what else the answer has for the
- * caller's memory. Then comes the line of the trace. */
+/* Writes the struct, if that isn't in its place yet, and what else the answer has for the caller's
+ * memory. Then comes the line of the trace. */
 static int take_writes(const struct answer *answer, uint64_t address, size_t size)
 {
     struct iovec here[1 + MOST_WRITES], there[1 + MOST_WRITES];
@@ -522,16 +527,28 @@ static int find_long(struct answer *answer)
     return 0;
 }
 
+/* The place of the struct of an answer. A number of a descriptor is put into it here. */
+static struct iovec place_of_struct(const struct sent *sent, uint64_t address)
+{
+    uint32_t request = sent->ask.request;
+    bool is_direct = caller_now() == NULL && (request & IOC_OUT) && !makes_descriptor(request);
+
+    return (struct iovec){is_direct ? (void *)(uintptr_t)address : sent->channel->bytes,
+                          _IOC_SIZE(request)};
+}
+
 /* What an answer has for the caller. */
 static int take(struct answer *answer, const struct sent *sent, uint64_t address)
 {
     uint32_t size = _IOC_SIZE(sent->ask.request);
+    bool is_written = !(sent->ask.request & IOC_OUT)
+                      || (!answer->reply.is_long && answer->argument.iov_base != answer->bytes);
     int failed = answer->reply.is_long ? find_long(answer) : 0, copied;
 
     if (failed || answer->reply.size != size || answer->length < size)
         return failed ? failed : answer->reply.result;
     failed = put_descriptors(answer, sent);
-    copied = take_writes(answer, address, sent->ask.request & IOC_OUT ? size : 0);
+    copied = take_writes(answer, address, is_written ? 0 : size);
     if (answer->reply.is_long)
         munmap(answer->bytes, answer->length);
     return failed ? failed : copied ? copied : answer->reply.result;
@@ -551,7 +568,7 @@ static uint32_t tracing(void)
 static int ask_once(int fd, uint32_t request, uint64_t address, struct reply *reply, int *awaited)
 {
     const struct ask ask = {.kind = ASK_IOCTL, .request = request, .flags = tracing()};
-    struct answer answer = {.count = 0};
+    struct answer answer;
     struct sent sent;
     int failed = begin_packet(&sent, &ask);
 
@@ -560,6 +577,7 @@ static int ask_once(int fd, uint32_t request, uint64_t address, struct reply *re
     if (failed)
         return failed;
     failed = gather(&sent, address);
+    answer.argument = place_of_struct(&sent, address);
     if (!failed)
         failed = exchange(&sent, fd, true, &answer);
     if (!failed) {

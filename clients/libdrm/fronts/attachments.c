@@ -124,6 +124,11 @@ static const struct place *place_of(uint32_t request)
     return NULL;
 }
 
+bool makes_descriptor(uint32_t request)
+{
+    return place_of(request) != NULL;
+}
+
 /* Hands over the descriptor that the struct has the number of. */
 static int put_into_struct(struct answer *answer, const struct place *place)
 {

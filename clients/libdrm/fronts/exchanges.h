@@ -18,9 +18,11 @@ struct sent {
     unsigned count;              /* so many */
 };
 
-/* What is answered. `bytes` has what follows the reply. */
+/* What is answered. The kernel puts the struct where it belongs, if that is in this process;
+ * otherwise it is first in `bytes`, which have what follows the reply. */
 struct answer {
     struct reply reply;
+    struct iovec argument;
     uint8_t *bytes;
     size_t length;
     int descriptors[MOST_TAKEN];
@@ -37,6 +39,9 @@ void attach_descriptors(struct sent *sent, const void *argument);
 /* Attaches the fences of a commit, whose properties and values are these bytes. Says there at which
  * position each is, and tries the addresses for others. */
 void attach_fences(struct sent *sent, const uint8_t *properties, uint8_t *values);
+
+/* Returns whether the answer to a request has a descriptor whose number is in the struct. */
+bool makes_descriptor(uint32_t request);
 
 /* Hands descriptors of an answer to the caller, and puts their numbers into the struct and the last
  * writes. Returns 0, or a negative errno. */

@@ -26,19 +26,22 @@ static bool is_readable(uintptr_t address)
     return is_one;
 }
 
-/* Reads the memory of this process itself, which costs less than to read it as another one's. If
- * another thread unmaps it after the look, the process gets SIGSEGV. */
-static int read_own(const struct iovec *here, const struct iovec *there)
+/* Reads the memory of this process itself, which costs less than to read it as another one's. The
+ * page that was looked at last isn't looked at again. If another thread unmaps one after the look,
+ * the process gets SIGSEGV. */
+static int read_own(const struct iovec *here, const struct iovec *there, uintptr_t *page)
 {
     uintptr_t next = (uintptr_t)there->iov_base, end = next + there->iov_len;
 
     if (end < next)
         return -EFAULT;
     for (; next < end; next = next / PAGE * PAGE + PAGE) {
-        if (!is_readable(next))
+        if (next / PAGE != *page && !is_readable(next))
             return -EFAULT;
+        *page = next / PAGE;
     }
-    memcpy(here->iov_base, there->iov_base, there->iov_len);
+    if (there->iov_len > 0)
+        memcpy(here->iov_base, there->iov_base, there->iov_len);
     return 0;
 }
 
@@ -55,6 +58,7 @@ static bool has_copied(ssize_t copied, const struct iovec *parts, size_t count)
 int caller_reads_all(const struct iovec *here, const struct iovec *there, size_t count)
 {
     const struct caller *caller = caller_now();
+    uintptr_t page = UINTPTR_MAX;
     size_t at;
 
     if (caller != NULL)
@@ -62,7 +66,7 @@ int caller_reads_all(const struct iovec *here, const struct iovec *there, size_t
                    ? 0
                    : -EFAULT;
     for (at = 0; at < count; at++) {
-        if (read_own(&here[at], &there[at]) != 0)
+        if (read_own(&here[at], &there[at], &page) != 0)
             return -EFAULT;
     }
     return 0;
@@ -78,11 +82,13 @@ int caller_reads(void *to, uint64_t address, size_t size)
 int caller_takes_all(const struct iovec *here, const struct iovec *there, size_t count)
 {
     const struct caller *caller = caller_now();
-    pid_t task = caller == NULL ? getpid() : caller->task;
-    ssize_t copied =
-        has_copied(0, here, count) ? 0 : process_vm_writev(task, here, count, there, count, 0);
+    ssize_t copied;
     size_t at;
 
+    if (has_copied(0, here, count))
+        return 0;
+    copied =
+        process_vm_writev(caller == NULL ? getpid() : caller->task, here, count, there, count, 0);
     if (has_copied(copied, here, count))
         return 0;
     if (copied >= 0 || caller != NULL || (errno != EPERM && errno != ENOSYS))

@@ -1,6 +1,6 @@
 """The numbers of the server's protocol.
 
-Written by tools/constants from the sources of the server. docs/FORMATS.md has the
+Written by tools/constants from the sources of the server. docs/FRAMES.md has the
 calls, the answers and the frames, docs/RULES.md the rules.
 """
 

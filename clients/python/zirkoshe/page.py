@@ -18,6 +18,7 @@ from typing import Any, Dict, List, NamedTuple, Optional, Tuple
 
 from .audit import formed
 from .changes import KINDS, Change, Row, changes_between, rows_of, shown
+from .outputs import Outputs
 from .rows import Audit
 
 __all__ = [
@@ -59,7 +60,11 @@ class Sources(NamedTuple):
     scripts: Tuple[str, ...]
 
 
-CHANGES = Sources("changes.html", ("page.css", "picture.css"), ("changes.js",))
+CHANGES = Sources(
+    "changes.html",
+    ("page.css", "picture.css", "outputs.css"),
+    ("changes.js", "outputs.js"),
+)
 
 
 def text_of(name: str) -> str:
@@ -122,10 +127,14 @@ class Handler(http.server.BaseHTTPRequestHandler):
         # only the page itself may ask for more; another site may lead to the page
         if self.headers.get("Sec-Fetch-Site", "same-origin") != "same-origin":
             raise Refused(403)
+        fields = dict(urllib.parse.parse_qsl(query))
         if path == "/live":
             self.send_news()
+        elif path == "/favicon.ico":  # what a browser asks for by itself
+            self.refuse(204)
+        elif path == "/output":
+            self.send("image/png", self.server.page.output(fields), {})
         else:
-            fields = dict(urllib.parse.parse_qsl(query))
             answer = self.server.page.answer(path[1:], fields)
             self.send("application/json", json.dumps(answer).encode(), {})
 
@@ -152,7 +161,8 @@ class Handler(http.server.BaseHTTPRequestHandler):
         nonce = secrets.token_urlsafe(16)
         body = self.server.page.document(nonce).encode()
         policy = (
-            "default-src 'none'; connect-src 'self'; style-src 'unsafe-inline'; "
+            "default-src 'none'; connect-src 'self'; img-src 'self'; "
+            "style-src 'unsafe-inline'; "
             f"script-src 'nonce-{nonce}'; base-uri 'none'; form-action 'none'; "
             "frame-ancestors 'none'"
         )
@@ -193,7 +203,8 @@ class LivePage:
     calls `serve` when it is ready.
     """
 
-    def __init__(self, port: int) -> None:
+    def __init__(self, port: int, outputs: Optional[Outputs] = None) -> None:
+        self._outputs = outputs
         self._turn = threading.Condition()
         self._number = 0
         self._has_ended = False
@@ -219,7 +230,18 @@ class LivePage:
 
     def answer(self, path: str, fields: Dict[str, str]) -> Any:
         """Returns the answer to a request of the page, or raises `Refused`."""
-        raise Refused(404)
+        if path != "outputs" or self._outputs is None:
+            raise Refused(404)
+        return self._outputs.listed()
+
+    def output(self, fields: Dict[str, str]) -> bytes:
+        """Returns the picture of an output, or raises `Refused`."""
+        word = fields.get("crtc", "")
+        is_number = word.isascii() and word.isdigit() and len(word) <= 12
+        png = self._outputs.png(int(word)) if self._outputs and is_number else b""
+        if not png:
+            raise Refused(404)
+        return png
 
     def notice(self) -> None:
         """Sends the news to open pages."""
@@ -256,7 +278,11 @@ class LivePage:
 
     def _sent(self, is_new: bool) -> Dict[str, Any]:
         is_new = is_new and self.is_ready()
-        sent = {"is_new": is_new, "has_ended": self._has_ended}
+        sent = {
+            "is_new": is_new,
+            "has_ended": self._has_ended,
+            "has_outputs": self._outputs is not None,
+        }
         return {**sent, **(self.news() if is_new else {})}
 
 
@@ -266,8 +292,13 @@ class Page(LivePage):
     Its picture is without the client that reads the audits by default.
     """
 
-    def __init__(self, port: int, with_auditor: bool = False) -> None:
-        super().__init__(port)
+    def __init__(
+        self,
+        port: int,
+        with_auditor: bool = False,
+        outputs: Optional[Outputs] = None,
+    ) -> None:
+        super().__init__(port, outputs)
         self._with_auditor = with_auditor
         self._audit: Optional[Audit] = None
         self._changes: List[Change] = []

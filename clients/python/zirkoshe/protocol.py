@@ -1,6 +1,6 @@
 """The protocol without a connection: frames, answers and refusals.
 
-docs/FORMATS.md has the calls, the answers and the frames.
+docs/FRAMES.md has the calls, the answers and the frames.
 """
 
 import errno

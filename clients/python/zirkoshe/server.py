@@ -37,6 +37,7 @@ from typing import IO, Dict, Iterable, List, Optional, Type, Union
 
 from .aio import AsyncClient
 from .client import Client, PathLike
+from .display import Display
 
 PACKAGE = pathlib.Path(__file__).resolve().parent
 CLASSES = ("card", "render", "root")
@@ -227,13 +228,20 @@ class Server:
         loaded = filter(None, (find_library(), os.environ.get("LD_PRELOAD")))
         variables = {
             **self.environment,
-            "DRM_SERVER_DISPLAY": self._path("display"),
+            "DRM_SERVER_DISPLAY": self._started_display(),
             "LD_PRELOAD": " ".join(loaded),
         }
-        if self._display is None and self._process is not None:
-            self._start_display(variables["DRM_SERVER_DISPLAY"])
         del variables["DRM_SERVER_RENDER"]
         return variables
+
+    @property
+    def display(self) -> Display:
+        """The display, which takes pictures of what such programs show.
+
+        An example is `expect_picture(server.display.screenshot(1), "kept.png")`. The
+        first use starts the display.
+        """
+        return Display(self._started_display())
 
     def fail(self, call: str, nth: int = 1) -> None:
         """Refuses memory to the nth call from now that would add a row.
@@ -357,6 +365,13 @@ class Server:
             )
         except OSError as error:
             raise ServerError(f"can't run {command[0]}: {error.strerror}") from error
+
+    def _started_display(self) -> str:
+        """Starts the display if necessary, and returns the path of its socket."""
+        path = self._path("display")
+        if self._display is None and self._process is not None:
+            self._start_display(path)
+        return path
 
     def _start_display(self, path: str) -> None:
         """Starts a display, whose errors are in the server's log."""

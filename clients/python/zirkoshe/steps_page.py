@@ -8,16 +8,21 @@ others. `notice` says that the journal has grown.
 
 import secrets
 import time
-from typing import Any, Dict, List, NamedTuple, Tuple
+from typing import Any, Dict, List, NamedTuple, Optional, Tuple
 
 from .changes import changes_between
 from .graph import Graph, graph_of, svg
+from .outputs import Outputs
 from .page import LivePage, Refused, Sources, document
 from .replay import ReplayError, Replays
 from .rows import Audit
 from .steps import Filter, Outcome, Step
 
-STEPS = Sources("steps.html", ("page.css", "picture.css", "steps.css"), ("steps.js",))
+STEPS = Sources(
+    "steps.html",
+    ("page.css", "picture.css", "outputs.css", "steps.css"),
+    ("steps.js", "outputs.js"),
+)
 #: How many rows are sent at once.
 MOST_ROWS = 500
 #: How many boxes and arrows a picture has at most. Drawing more takes seconds.
@@ -95,8 +100,9 @@ class StepsPage(LivePage):
         replays: Replays,
         with_auditor: bool = False,
         is_live: bool = False,
+        outputs: Optional[Outputs] = None,
     ) -> None:
-        super().__init__(port)
+        super().__init__(port, outputs)
         self._replays = replays
         self._journal = replays.journal
         self._with_auditor = with_auditor
@@ -151,10 +157,10 @@ class StepsPage(LivePage):
     def answer(self, path: str, fields: Dict[str, str]) -> Any:
         """Returns the answer to a request of the page.
 
-        The rows of another generation have gone, which is the status 409.
+        The rows of another generation do not exist any more, which is the status 409.
         """
         if path not in self._asked:
-            raise Refused(404)
+            return super().answer(path, fields)
         view = view_of(fields)
         with self._journal.turn:
             if view.generation != self._journal.generation:

@@ -210,7 +210,7 @@ impl Client {
         Client::builder().open(path)
     }
 
-    /// Returns the number that the server gave this client.
+    /// Returns the number that the server assigned to this client.
     pub fn number(&self) -> u32 {
         self.number
     }

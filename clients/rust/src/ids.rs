@@ -1,4 +1,4 @@
-//! Ids and handles, each a type of its own: a CRTC's id is no connector's.
+//! Ids and handles, each with its own type: a CRTC's id is no connector's.
 
 use std::fmt;
 

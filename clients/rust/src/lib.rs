@@ -2,7 +2,7 @@
 //!
 //! A [`Client`] is one connection to one of the server's sockets, with a method for each call. A
 //! rule that denies a call is [`Error::Denied`], a fault outside the rules [`Error::Fault`]. Both
-//! change nothing. docs/FORMATS.md has the calls, the answers and the frames.
+//! change nothing. docs/FRAMES.md has the calls, the answers and the frames.
 //!
 //! ```
 //! use zirkoshe::{testing::Server, Client, ConnectorId, CrtcId, Error, PlaneId, Rule};
@@ -30,6 +30,7 @@ mod control;
 mod error;
 mod frames;
 mod ids;
+pub mod pictures;
 pub mod testing;
 
 pub use client::{

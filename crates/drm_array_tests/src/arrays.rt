@@ -3,7 +3,7 @@
 use crate::numbers::Numbers;
 use crate::plain_map::{MARKS, Plain, SLOTS, index_of};
 use drm_index_array::{IndexArray, InsertFault, Mark};
-use drm_test_cases::{Call, Told, check, compare};
+use drm_test_support::{Call, Told, check, compare};
 
 /// A call of an array.
 #[derive(Clone, Copy)]

@@ -1,7 +1,7 @@
 //! Numbers by groups, call by call.
 
 use drm_id_alloc::{Groups, NoMemory};
-use drm_test_cases::{Call, Told, check};
+use drm_test_support::{Call, Told, check};
 
 /// A call of the groups.
 #[derive(Clone, Copy)]

@@ -5,7 +5,7 @@ ghost use Rattle.std.specs.Prelude.{◌+◌, ◌<◌, ◌^◌};
 use crate::numbers::Numbers;
 use crate::plain_table::{Plain, SIZE};
 use drm_id_alloc::{AddFault, IdTable};
-use drm_test_cases::{Call, Told, check, compare};
+use drm_test_support::{Call, Told, check, compare};
 use std::alloc::Global;
 use std::process::Abort;
 

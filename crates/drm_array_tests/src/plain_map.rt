@@ -4,7 +4,7 @@ ghost use Rattle.std.specs.Prelude.{◌<◌, IfSome};
 
 use crate::arrays::Ask;
 use drm_index_array::Mark;
-use drm_test_cases::{Call, Told};
+use drm_test_support::{Call, Told};
 
 /// The number of indices of the plain map: 0 to 40, those at which a level of the tree begins or ends, and the five
 /// greatest.

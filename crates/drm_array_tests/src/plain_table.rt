@@ -4,7 +4,7 @@ ghost use Rattle.std.specs.Prelude.{◌<◌};
 
 use crate::number_tables::Ask;
 use crate::numbers::Numbers;
-use drm_test_cases::{Call, Told};
+use drm_test_support::{Call, Told};
 
 /// The number of numbers in the range.
 pub(crate) const SIZE: usize = 24;

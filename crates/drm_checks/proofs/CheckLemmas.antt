@@ -4,12 +4,12 @@ use Rattle.std.proofs.lemmas.Grind.{flat_map-append}
 use Rattle.std.proofs.lemmas.List.{length_push}
 use Rattle.drm_table.specs.declared.answers.Answer.{Answer}
 use Rattle.drm_table.specs.declared.apart.Apart.{Apart}
-use Rattle.drm_streams.specs.Streams.{SourceTrace, SinkTrace}
-use Rattle.drm_streams.specs.Turns.{Took, WriteCost, PartialWriteCost}
-use Rattle.drm_streams.specs.Texts.{WritesOut}
-use Rattle.drm_streams.specs.declared.turns.Written.{Written}
-use Rattle.drm_streams.specs.declared.turns.Written.TheVariants as written
-use Rattle.drm_streams.proofs.Traces.{Took-then}
+use Rattle.drm_frames.specs.Streams.{SourceTrace, SinkTrace}
+use Rattle.drm_frames.specs.Turns.{Took, WriteCost, PartialWriteCost}
+use Rattle.drm_frames.specs.Texts.{WritesOut}
+use Rattle.drm_frames.specs.declared.turns.Written.{Written}
+use Rattle.drm_frames.specs.declared.turns.Written.TheVariants as written
+use Rattle.drm_frames.proofs.Traces.{Took-then}
 use Rattle.drm_runs.specs.Runs.{Covers}
 use Rattle.drm_runs.specs.Script.{Setting}
 use Rattle.drm_runs.specs.LineSteps.{LinesState, IsGiven, HoldsNext, IsEndOfLines}

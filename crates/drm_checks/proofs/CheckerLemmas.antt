@@ -2,8 +2,8 @@
 use Rattle.std.proofs.Common.{◌≡◌, ℕ, ◌+◌, ◌∙◌, List, length, sym, ap, subst, Option, Some, Result}
 use Rattle.drm_table.specs.declared.answers.Answer.{Answer}
 use Rattle.drm_table.specs.declared.apart.Apart.{Apart}
-use Rattle.drm_streams.specs.Streams.{SinkTrace}
-use Rattle.drm_streams.specs.Texts.{WritesOut}
+use Rattle.drm_frames.specs.Streams.{SinkTrace}
+use Rattle.drm_frames.specs.Texts.{WritesOut}
 use Rattle.drm_runs.specs.Script.{Uses, IsMisplaced, IsNowhere, WantsDevice}
 use Rattle.drm_runs.specs.Interpreter.{InterpreterState}
 use Rattle.drm_runs.specs.LineSteps.{LinesState}

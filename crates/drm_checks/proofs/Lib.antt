@@ -6,3 +6,6 @@ pub mod StepLemmas
 pub mod TellingLemmas
 pub mod UpdateLemmas
 pub mod UpdatedLaws
+pub mod ReplayLemmas
+pub mod JournalLemmas
+pub mod Crossing

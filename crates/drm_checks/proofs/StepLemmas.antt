@@ -1,11 +1,11 @@
 -- A check goes on by a line, or ends with it.
 use Rattle.std.proofs.Common.{◌≡◌, ℕ, List, [], refl, sym, subst, arith, Some, None, Option}
-use Rattle.drm_streams.specs.Streams.{SourceTrace, SinkTrace}
-use Rattle.drm_streams.specs.Turns.{WriteCost}
-use Rattle.drm_streams.specs.Texts.{WritesOut}
-use Rattle.drm_streams.specs.declared.turns.Written.{Written}
-use Rattle.drm_streams.specs.declared.turns.Written.TheVariants as written
-use Rattle.drm_streams.proofs.Traces.{Took-none}
+use Rattle.drm_frames.specs.Streams.{SourceTrace, SinkTrace}
+use Rattle.drm_frames.specs.Turns.{WriteCost}
+use Rattle.drm_frames.specs.Texts.{WritesOut}
+use Rattle.drm_frames.specs.declared.turns.Written.{Written}
+use Rattle.drm_frames.specs.declared.turns.Written.TheVariants as written
+use Rattle.drm_frames.proofs.Traces.{Took-none}
 use Rattle.drm_runs.specs.Script.{Setting}
 use Rattle.drm_runs.specs.LineSteps.{LinesState, ReadsNext}
 use Rattle.drm_runs.specs.Writing.{end_of_writing}

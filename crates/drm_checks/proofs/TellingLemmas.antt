@@ -1,12 +1,12 @@
 -- A difference that is told in two parts.
 use Rattle.std.proofs.Common.{◌≡◌, ℕ, List, [], ◌++◌, refl, sym, ap, append-nil}
-use Rattle.drm_streams.specs.Streams.{SinkTrace}
-use Rattle.drm_streams.specs.Turns.{WriteCost}
-use Rattle.drm_streams.specs.Texts.{WritesOut}
-use Rattle.drm_streams.specs.declared.turns.Written.{Written}
-use Rattle.drm_streams.specs.declared.turns.Written.TheVariants as written
-use Rattle.drm_streams.proofs.Traces.{WriteCost-none, WriteCost-then}
-use Rattle.drm_streams.proofs.TextLemmas.{stops}
+use Rattle.drm_frames.specs.Streams.{SinkTrace}
+use Rattle.drm_frames.specs.Turns.{WriteCost}
+use Rattle.drm_frames.specs.Texts.{WritesOut}
+use Rattle.drm_frames.specs.declared.turns.Written.{Written}
+use Rattle.drm_frames.specs.declared.turns.Written.TheVariants as written
+use Rattle.drm_frames.proofs.Traces.{WriteCost-none, WriteCost-then}
+use Rattle.drm_frames.proofs.TextLemmas.{stops}
 
 -- A text that was written, and then a second, are written together.
 pub told_then : (end : Written) (a b c : SinkTrace) (xs ys : List ℕ) (s t u : ℕ) → WriteCost a b xs s t

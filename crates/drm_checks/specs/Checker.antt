@@ -2,9 +2,9 @@
 use Rattle.std.specs.Prelude.{◌≡◌, ℕ, ◌+◌, List, [], ◌∷◌, length, Option, None, Some, Result}
 use Rattle.drm_table.specs.declared.answers.Answer.{Answer}
 use Rattle.drm_table.specs.declared.apart.Apart.{Apart}
-use Rattle.drm_streams.specs.Streams.{SinkTrace}
-use Rattle.drm_streams.specs.Texts.{WritesOut}
-use Rattle.drm_streams.specs.declared.turns.Written.{Written}
+use Rattle.drm_frames.specs.Streams.{SinkTrace}
+use Rattle.drm_frames.specs.Texts.{WritesOut}
+use Rattle.drm_frames.specs.declared.turns.Written.{Written}
 use Rattle.drm_runs.specs.Script.{Setting, Uses, IsMisplaced, IsNowhere, WantsDevice}
 use Rattle.drm_runs.specs.Interpreter.{at_start}
 use Rattle.drm_runs.specs.LineSteps.{LinesState}

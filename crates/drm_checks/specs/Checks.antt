@@ -2,10 +2,10 @@
 use Rattle.std.specs.Prelude.{◌≡◌, ℕ, ◌+◌, ◌<◌, ◌≤◌, List, [], ◌∷◌, ◌++◌, ◌⊎◌, Option, Result, length, map}
 use Rattle.drm_table.specs.declared.answers.Answer.{Answer}
 use Rattle.drm_table.specs.declared.apart.Apart.{Apart}
-use Rattle.drm_streams.specs.Streams.{SourceTrace, SinkTrace}
-use Rattle.drm_streams.specs.Turns.{Gave, Took}
+use Rattle.drm_frames.specs.Streams.{SourceTrace, SinkTrace}
+use Rattle.drm_frames.specs.Turns.{Gave, Took}
 use Rattle.drm_runs.specs.Lines.{IsBare}
-use Rattle.drm_runs.specs.Script.{Setting, Place, Script, Uses, IsMisplaced, IsNowhere, WantsDevice, unbound, usual}
+use Rattle.drm_runs.specs.Script.{Setting, Place, Script, Uses, IsMisplaced, IsNowhere, WantsDevice, unbound}
 use Rattle.drm_runs.specs.Script.Place.{Planned}
 use Rattle.drm_runs.specs.LineSteps.{IsPart}
 use Rattle.drm_runs.specs.Runs.{Covers, EndsLine}
@@ -95,11 +95,6 @@ pub record ChecksOn (setting : Setting) (file : File) (source source' : SourceTr
   pub failed : report.failed ≡ length differences
   pub covers : Covers (source.counts.ends < source'.counts.ends) read lines rest
   pub ends : Ends report.end (source.counts.ends < source'.counts.ends) source source' sink sink' turns (length lines) device rest written file differences
-
--- a check on a device of the test topology, with the program's limits by default, that names no command
-abbrev pub Checks : List ℕ → SourceTrace → SourceTrace → SinkTrace → SinkTrace → ℕ → Report → Type 0
-Checks name source source' sink sink' turns report =
-    ChecksOn usual (record { name = name; command = [] }) source source' sink sink' turns report
 
 -- A checked file gets the answers that the script of its lines without expectations gets.
 abbrev pub CheckedFilesAreScripts : Type 0

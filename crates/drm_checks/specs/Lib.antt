@@ -5,3 +5,7 @@ pub mod Expectations
 pub mod Steps
 pub mod Totals
 pub mod Updates
+pub mod Shrinking
+pub mod FirstDifference
+pub mod Journals
+pub mod Lines

@@ -1,7 +1,7 @@
 -- A check line by line (own).
 use Rattle.std.specs.Prelude.{◌≡◌, ℕ, ◌+◌, ◌<◌, ◌≤◌, ◌^◌, List, Option, None, Some, length}
-use Rattle.drm_streams.specs.Streams.{SourceTrace, SinkTrace}
-use Rattle.drm_streams.specs.Turns.{Took}
+use Rattle.drm_frames.specs.Streams.{SourceTrace, SinkTrace}
+use Rattle.drm_frames.specs.Turns.{Took}
 use Rattle.drm_runs.specs.Script.{Setting}
 use Rattle.drm_runs.specs.LineSteps.{LinesRead, fuel_of, no_lines}
 use Rattle.drm_runs.specs.declared.stops.ScriptEnd.{ScriptEnd}

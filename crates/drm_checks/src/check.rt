@@ -2,13 +2,13 @@
 
 ghost use Rattle.std.specs.Prelude.{◌≡◌, ◌<◌, ◌+◌, ◌^◌, is_some};
 ghost use Rattle.drm_runs.specs.Runs.{is_malformed};
-ghost use Rattle.drm_checks.specs.Checks.{Checks, ChecksOn};
+ghost use Rattle.drm_checks.specs.Checks.{ChecksOn};
 ghost use Rattle.drm_checks.specs.Differences.{file_of};
 
 use crate::checker::Checker;
+use drm_frames::{Sink, Source};
 use drm_runs::{ScriptEnd, ScriptLines, Setup, Stop};
 use drm_script::Malformed;
-use drm_streams::{Sink, Source};
 use std::alloc::Global;
 
 /// The result of the check of a file (own).
@@ -22,7 +22,7 @@ use std::alloc::Global;
 /// let report = Report { end: ScriptEnd::Done, passed: 0, failed: 0 };
 /// assert!(rt; report.expects_nothing() && report.failures() == 1);
 /// ```
-#[derive(Clone, Copy, Debug, PartialEq, Eq)]
+#[derive(Clone, Copy, Debug, PartialEq)]
 pub struct Report {
     /// The end of the run of its script.
     pub end: ScriptEnd,
@@ -100,72 +100,25 @@ impl Check {
     }
 }
 
-/// Checks a file: runs its script on a new device, and compares each answer with the one that its line expects (own).
+/// Checks a file: runs its script on a new device, which begins with this topology and these default limits, and compares
+/// each answer with the one that its line expects (own).
 ///
-/// It writes a line to the sink for each answer that differs: `NAME:N: expected EXPECTED, came ANSWER`. It makes at
-/// most `turns` calls of the source and the sink.
+/// It writes a line to the sink for each answer that differs: `NAME:N: expected EXPECTED, came ANSWER`. After it is a line
+/// with four spaces, the command and the line's number, unless the command is empty. It makes at most `turns` calls of the
+/// source and the sink.
 ///
 /// The text of a line before its first ` -> ` is a line of a script. The text after it is the expected line of the
 /// answer. `denied N` and `apart N` are short for the whole line. A line without ` -> ` and a comment expect nothing.
 ///
-/// The device has the test topology, and the program's limits by default. The function allocates only the device.
-///
-/// # Examples
-///
-/// ```rust
-/// use drm_checks::check_script;
-/// use drm_streams::{FromRead, ToWrite};
-///
-/// let alloc = rt.alloc();
-/// let mut source = FromRead::new(b"open a card -> client 1\n".as_slice());
-/// let mut sink = ToWrite::new(Vec::new(alloc));
-/// let report = check_script(alloc, "a.script", &mut source, &mut sink, 1000);
-/// assert!(rt; report.passed == 1 && report.failed == 0);
-/// ```
-pub fn check_script<S: Source, K: Sink>(
-    alloc: Global,
-    name: &str,
-    source: &mut S,
-    sink: &mut K,
-    turns: u64,
-) -> Report
-    requires source_calls { (S.trace source.old).counts.calls + turns < 2 ^ 48 }
-    requires sink_calls { (K.trace sink.old).counts.calls + turns < 2 ^ 48 }
-    ensures { Checks name.now (S.trace source.old) (S.trace source.new) (K.trace sink.old) (K.trace sink.new) turns result }
-{
-    check_with_cause(alloc, name, source, sink, turns).0
-}
-
-/// Checks a file as `check_script` does, and also returns the cause if a line can't be used.
-///
-/// The cause says why the text before the first ` -> ` is no line of a script, and at which place. It may also be that
-/// the whole line is too long.
-pub fn check_with_cause<S: Source, K: Sink>(
-    alloc: Global,
-    name: &str,
-    source: &mut S,
-    sink: &mut K,
-    turns: u64,
-) -> (Report, Option<Malformed>)
-    requires source_calls { (S.trace source.old).counts.calls + turns < 2 ^ 48 }
-    requires sink_calls { (K.trace sink.old).counts.calls + turns < 2 ^ 48 }
-    ensures checks { Checks name.now (S.trace source.old) (S.trace source.new) (K.trace sink.old) (K.trace sink.new) turns result.0 }
-    ensures told { is_some result.1 ≡ is_malformed result.0.end }
-{
-    check_on(alloc, Setup::usual(), name, "", source, sink, turns)
-}
-
-/// Checks a file as `check_with_cause` does, on a device that begins with this topology and these default limits.
-///
-/// After each answer that differs it writes a line with four spaces, the command and the line's number. If the command
-/// is empty, it does not.
+/// If a line can't be used, the function also returns the cause: why the text before the first ` -> ` is no line of a
+/// script, and at which place, or that the whole line is too long. It allocates only the device.
 ///
 /// # Examples
 ///
 /// ```rust
 /// use drm_checks::check_on;
 /// use drm_runs::Setup;
-/// use drm_streams::{FromRead, ToWrite};
+/// use drm_frames::{FromRead, ToWrite};
 ///
 /// let alloc = rt.alloc();
 /// let mut source = FromRead::new(b"open a card -> client 1\n".as_slice());

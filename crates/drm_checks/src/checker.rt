@@ -1,13 +1,13 @@
 //! The check of one line of a file after the other.
 
 ghost use Rattle.std.specs.Prelude.{◌≡◌, ◌<◌, ◌+◌, ◌^◌};
-ghost use Rattle.drm_streams.specs.Texts.{WritesOut};
+ghost use Rattle.drm_frames.specs.Texts.{WritesOut};
 ghost use Rattle.drm_checks.specs.Differences.{command_text, difference_text, end_of_expected, file_of, front_of, line_text, why_text};
 
 use crate::expectations::{is_met, parts_of};
+use drm_frames::{Sink, Written, put_each};
 use drm_runs::{Interpreter, LineResult, ScriptEnd, ScriptLines, Setup, Stop};
 use drm_script::line_of;
-use drm_streams::{Sink, Written, put_each};
 use drm_table::{Answer, Apart};
 use std::alloc::Global;
 

@@ -1,12 +1,12 @@
 //! The results of the checks of several files.
 
 ghost use Rattle.std.specs.Prelude.{◌≡◌, ◌<◌, ◌+◌, ◌^◌};
-ghost use Rattle.drm_streams.specs.Texts.{WritesOut};
+ghost use Rattle.drm_frames.specs.Texts.{WritesOut};
 ghost use Rattle.drm_checks.specs.Totals.{malformed_text, silent_text, totals_text};
 
 use crate::check::Report;
+use drm_frames::{Sink, Written, put_each};
 use drm_runs::ScriptEnd;
-use drm_streams::{Sink, Written, put_each};
 
 /// The expectations and the files of several checks (own).
 ///
@@ -22,7 +22,7 @@ use drm_streams::{Sink, Written, put_each};
 /// let totals = Totals::new().add(&report);
 /// assert!(rt; totals.passed == 2 && totals.failed == 1);
 /// ```
-#[derive(Clone, Copy, Debug, PartialEq, Eq)]
+#[derive(Clone, Copy, Debug, PartialEq)]
 pub struct Totals {
     /// The number of expectations that were met.
     pub passed: u64,

@@ -29,7 +29,7 @@ const LINE_END: &[u8] = b"\n";
 /// let Err(fault) = update_script(alloc, Setup::usual(), b"opn a card\n") else { return };
 /// assert!(rt; fault != UpdateFault::NoMemory);
 /// ```
-#[derive(Clone, Copy, Debug, PartialEq, Eq)]
+#[derive(Clone, Copy, Debug, PartialEq)]
 pub enum UpdateFault {
     /// The line with this number, from 1, can't be used. The cause says why the text before its first ` -> ` is no line
     /// of a script, or that the whole line is too long.

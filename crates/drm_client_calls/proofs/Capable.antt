@@ -2,8 +2,8 @@
 use Rattle.std.proofs.Common.{◌≡◌, ℕ, ◌==◌, Bool, true, false, List, [], ◌∷◌, Option, map, find, refl, ap, ◌∙◌}
 use Rattle.std.specs.Prelude.{if◌then◌else◌}
 use Rattle.std.specs.Option.{is_some, option_map}
-use Rattle.drm_lists.proofs.Lists.{all_weaker, all_each, all_mapped}
-use Rattle.drm_lists.proofs.FoundInLists.{find-map, find-same, is_some-map}
+use Rattle.drm_index_array.proofs.Lists.{all_weaker, all_each, all_mapped}
+use Rattle.drm_index_array.proofs.FoundInLists.{find-map, find-same, is_some-map}
 use Rattle.drm_files.specs.declared.rows.FileClient.{FileClient}
 use Rattle.drm_files.specs.Files as files
 use Rattle.drm_files.specs.declared.rows.ClientCapability.{ClientCapability}

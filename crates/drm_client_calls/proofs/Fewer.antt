@@ -1,10 +1,10 @@
 -- One that refers to objects fewer, step by step.
 use Rattle.std.proofs.Common.{◌≡◌, ℕ, true, ◌==◌, ◌||◌, List, ◌∷◌, ◌++◌, sym, ap, ◌∙◌}
 use Rattle.std.proofs.lemmas.Bool.{or_right}
-use Rattle.drm_lists.specs.Numbers.{is_among}
-use Rattle.drm_lists.specs.Orders.{SameRows}
-use Rattle.drm_lists.proofs.Numbers.{among-append}
-use Rattle.drm_lists.proofs.Orders.{same-any}
+use Rattle.drm_index_array.specs.Numbers.{is_among}
+use Rattle.drm_index_array.specs.Orders.{SameRows}
+use Rattle.drm_index_array.proofs.Numbers.{among-append}
+use Rattle.drm_index_array.proofs.Orders.{same-any}
 use Rattle.drm_gem.specs.declared.object.Object.{Object}
 use Rattle.drm_gem.specs.Objects.{ObjectSet}
 use Rattle.drm_state.proofs.Counting.{IsStep, named_trans, among-between}

@@ -4,11 +4,11 @@ use Rattle.std.proofs.Math.Bool.{or-false, or-true}
 use Rattle.std.specs.Prelude.{if◌then◌else◌}
 use Rattle.std.specs.Option.{option_map, option_map_or}
 use Rattle.std.proofs.lemmas.Bool.{eqb-true}
-use Rattle.drm_lists.proofs.Lists.{all_each, all_weaker, filter_all}
+use Rattle.drm_index_array.proofs.Lists.{all_each, all_weaker, filter_all}
 use Rattle.std.specs.List.{list_any}
 use Rattle.std.proofs.lemmas.Option.{none-some, same_Some}
-use Rattle.drm_lists.proofs.FoundInLists.{none_found}
-use Rattle.drm_lists.proofs.Rising.{found, all_found}
+use Rattle.drm_index_array.proofs.FoundInLists.{none_found}
+use Rattle.drm_index_array.proofs.Rising.{found, all_found}
 use Rattle.drm_masters.specs.declared.rows.Member.{Member}
 use Rattle.drm_masters.specs.declared.rows.Master.{Master}
 use Rattle.drm_masters.specs.Masters as masters
@@ -21,8 +21,8 @@ use Rattle.drm_leases.specs.Leases.{LeaseSet}
 use Rattle.drm_leases.specs.Calls as leases
 use Rattle.drm_leases.specs.Agreed.{AreAgreed}
 use Rattle.drm_leases.proofs.Agreeing.{agreed_closed_own}
-use Rattle.drm_lists.specs.Chains.{is_under}
-use Rattle.drm_lists.proofs.Chains.{itself}
+use Rattle.drm_index_array.specs.Chains.{is_under}
+use Rattle.drm_index_array.proofs.Chains.{itself}
 use Rattle.drm_state.specs.Parts.{device_without, own_master, is_below, released, ended, ends_with, without_its_master, without_its_leases}
 use Rattle.drm_state.specs.Invariants.{AreKeptBy}
 use Rattle.drm_state.proofs.Ended.{none_released, none_ended, closed_released}

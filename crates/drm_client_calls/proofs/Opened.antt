@@ -7,10 +7,10 @@ use Rattle.std.proofs.lemmas.Bool.{eqb-true, or_left, or_right}
 use Rattle.std.proofs.lemmas.Bool.Decides.{nat_tests}
 use Rattle.std.proofs.lemmas.List.{map-append}
 use Rattle.std.proofs.lemmas.List.Elements.{filter-append}
-use Rattle.drm_lists.specs.Orders.{SameRows, InOrder}
-use Rattle.drm_lists.proofs.Lists.{all_weaker, all_append, filter_all, filter-fewer, all_both, list_any_left, list_any_right}
-use Rattle.drm_lists.proofs.FoundInLists.{is_some-find, find_others}
-use Rattle.drm_lists.proofs.Numbers.{less-differ, flipped}
+use Rattle.drm_index_array.specs.Orders.{SameRows, InOrder}
+use Rattle.drm_index_array.proofs.Lists.{all_weaker, all_append, filter_all, filter-fewer, all_both, list_any_left, list_any_right}
+use Rattle.drm_index_array.proofs.FoundInLists.{is_some-find, find_others}
+use Rattle.drm_index_array.proofs.Numbers.{less-differ, flipped}
 use Rattle.drm_files.specs.declared.rows.FileFlags.{FileFlags}
 use Rattle.drm_files.specs.declared.rows.FileClient.{FileClient}
 use Rattle.drm_files.specs.declared.rows.FileHandle.{FileHandle}

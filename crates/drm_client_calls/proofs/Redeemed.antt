@@ -5,10 +5,10 @@ use Rattle.std.specs.Cmp.{both_ways}
 use Rattle.std.specs.List.{AllByRecursion}
 use Rattle.std.specs.Option.{is_some, option_map, option_map_or, option_and_then}
 use Rattle.std.proofs.lemmas.Bool.{eqb-true}
-use Rattle.drm_lists.specs.Orders.{SameRows, InOrder}
-use Rattle.drm_lists.proofs.Lists.{map-map, filter-same, all_each, all_weaker, all_both}
-use Rattle.drm_lists.proofs.FoundInLists.{find-map, find-same, find_none, none_found}
-use Rattle.drm_lists.proofs.Rising.{found, all_found, all_found_apart}
+use Rattle.drm_index_array.specs.Orders.{SameRows, InOrder}
+use Rattle.drm_index_array.proofs.Lists.{map-map, filter-same, all_each, all_weaker, all_both}
+use Rattle.drm_index_array.proofs.FoundInLists.{find-map, find-same, find_none, none_found}
+use Rattle.drm_index_array.proofs.Rising.{found, all_found, all_found_apart}
 use Rattle.drm_masters.specs.declared.rows.Master.{Master}
 use Rattle.drm_files.specs.declared.rows.FileFlags.{FileFlags}
 use Rattle.drm_files.specs.Files.{new_flags}

@@ -1,8 +1,8 @@
 -- The outcome of the program, by the end of its script (own).
 use Rattle.std.specs.Prelude.{ℕ, List, [], Option, None, Some, Result, Ok, Err, nat_lt, if◌then◌else◌}
 use Rattle.std.specs.Option.{option_map_or}
-use Rattle.drm_streams.specs.declared.turns.Written.{Written}
-use Rattle.drm_streams.specs.declared.turns.Written.TheVariants as written
+use Rattle.drm_frames.specs.declared.turns.Written.{Written}
+use Rattle.drm_frames.specs.declared.turns.Written.TheVariants as written
 use Rattle.drm_runs.specs.declared.stops.ScriptEnd.{ScriptEnd}
 use Rattle.drm_runs.specs.declared.stops.ScriptEnd.TheVariants as ends
 use Rattle.drm_checks.specs.declared.totals.Totals.{Totals}

@@ -1,7 +1,7 @@
 //! The command `drm_server check`.
 
 ghost use Rattle.std.specs.Prelude.{◌≡◌, false, IfOk};
-ghost use Rattle.drm_streams.specs.Streams.{no_calls};
+ghost use Rattle.drm_frames.specs.Streams.{no_calls};
 ghost use Rattle.drm_runs.specs.Runs.{is_malformed};
 ghost use Rattle.drm_commands.specs.Outcomes.{unless_fault};
 ghost use Rattle.drm_commands.specs.Outcomes as outcomes;
@@ -11,12 +11,12 @@ use crate::commands::explain_command;
 use crate::devices::{TopologyText, asked_setup, read_asked};
 use crate::faults::Fault;
 use crate::files::LoggedRead;
-use crate::outcomes::{Outcome, outcome_of_checks, script_fault};
+use crate::outcomes::script_fault;
 use crate::visible::Visible;
 use drm_checks::{Report, Totals, check_on, write_malformed, write_silent, write_totals};
+use drm_frames::{FromRead, ToWrite, Written};
 use drm_runs::ScriptEnd;
 use drm_script::Malformed;
-use drm_streams::{FromRead, ToWrite, Written};
 use drm_traffic::PROGRAM;
 use log::{Log, error};
 use std::alloc::Global;
@@ -114,8 +114,8 @@ pub(crate) fn tell_end<R: Print + Log>(
     }
 }
 
-/// Checks each file on a new device, prints the differences and the totals, and returns the outcome of the program
-/// (own). Allocates the devices.
+/// Checks each file on a new device, prints the differences and the totals, and returns the totals (own). Allocates the
+/// devices.
 ///
 /// # Errors
 ///
@@ -135,7 +135,7 @@ pub fn check<R: Input + Files + Print + AllocGlobal + Log>(
     rt: &R,
     alloc: Global,
     checking: &Checking<'_>,
-) -> Result<Outcome, Fault> {
+) -> Result<Totals, Fault> {
     let mut totals = Totals::new();
     let topology = read_asked(rt, checking.device)?;
     for path in checking.files.as_slice() {
@@ -151,5 +151,5 @@ pub fn check<R: Input + Files + Print + AllocGlobal + Log>(
     let mut sink = ToWrite::new(io::writer(rt));
     let mut turns = MOST_TURNS;
     fault_of(write_totals(&totals, &mut sink, &mut turns))?;
-    Ok(outcome_of_checks(&totals))
+    Ok(totals)
 }

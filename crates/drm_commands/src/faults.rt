@@ -15,7 +15,7 @@ use std::marker::Model;
 const LINE: usize = 64;
 
 /// The reason the program ends with a status other than 0 (own).
-#[derive(Clone, Copy, Debug, PartialEq, Eq)]
+#[derive(Clone, Copy, Debug, PartialEq)]
 pub enum Fault {
     /// The line with this number, from 1, is malformed.
     ScriptLine(u64),

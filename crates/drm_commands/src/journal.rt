@@ -6,8 +6,8 @@ ghost use Rattle.drm_table.specs.Limits.{are_in_range};
 use crate::devices::{TopologyText, asked_device};
 use crate::faults::Fault;
 use crate::files::{read_whole, write_fault};
+use drm_checks::{Journal, first_difference, journal_of};
 use drm_device::{Device, Limits};
-use drm_journals::{Journal, first_difference, journal_of};
 use drm_table::Event;
 use drm_traffic::PROGRAM;
 use log::{Log, error, warn};
@@ -59,7 +59,7 @@ impl<'a, F: Drop> JournalFile<'a, F> {
 }
 
 /// The files that a journal must not replace (own).
-#[derive(Clone, Copy, Debug, PartialEq, Eq)]
+#[derive(Clone, Copy, Debug, PartialEq)]
 pub struct FilesRead<'a> {
     /// The file of the topology.
     pub topology: Option<&'a str>,

@@ -4,11 +4,11 @@ ghost use Rattle.std.specs.Prelude.{◌<◌, ◌+◌, ◌^◌};
 
 use drm_checks::script_of;
 use drm_explanations::Labels;
+use drm_frames::Source;
 use drm_refusals::Line;
 use drm_rights::{Ledger, Step};
 use drm_runs::{Interpreter, LineResult, ScriptEnd, ScriptLines, Setup, Stop};
 use drm_script::line_of;
-use drm_streams::Source;
 use drm_table::{Answer, Apart, Limits};
 use std::alloc::{AllocError, Global};
 use std::mem;

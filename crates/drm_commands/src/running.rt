@@ -1,16 +1,15 @@
 //! The command `drm_server run`.
 
 ghost use Rattle.std.specs.Prelude.{◌≡◌};
-ghost use Rattle.drm_streams.specs.Streams.{no_calls};
+ghost use Rattle.drm_frames.specs.Streams.{no_calls};
 
 use crate::asked::Running;
 use crate::checking::{INPUT, open};
 use crate::devices::{asked_setup, read_asked};
 use crate::faults::Fault;
 use crate::journal::{FilesRead, create_asked, write_noted};
-use crate::outcomes::{Outcome, outcome_of};
+use drm_frames::{FromRead, Source, ToWrite};
 use drm_runs::{ScriptEnd, run_on};
-use drm_streams::{FromRead, Source, ToWrite};
 use drm_traffic::PROGRAM;
 use log::{Log, error};
 use std::alloc::Global;
@@ -27,7 +26,7 @@ fn run_source<R: Print + Files + AllocGlobal + Log, S: Source>(
     alloc: Global,
     running: Running<'_>,
     source: &mut S,
-) -> Result<Outcome, Fault>
+) -> Result<ScriptEnd, Fault>
     requires { (S.trace source.old).counts ≡ no_calls }
 {
     let topology = read_asked(rt, running.device)?;
@@ -49,11 +48,11 @@ fn run_source<R: Print + Files + AllocGlobal + Log, S: Source>(
     };
     let limits = ran.interpreter.limits();
     write_noted(rt, alloc, journal, topology, limits, events)?;
-    Ok(outcome_of(&ran.end))
+    Ok(ran.end)
 }
 
-/// Runs the script of a file or of standard input, prints its answers, and returns the outcome of the program (own).
-/// Allocates the device.
+/// Runs the script of a file or of standard input, prints its answers, and returns how it ended (own). If a line can't be used, the
+/// cause is logged. Allocates the device.
 ///
 /// # Errors
 ///
@@ -73,7 +72,7 @@ pub fn run<R: Input + Print + Files + AllocGlobal + Log>(
     rt: &R,
     alloc: Global,
     running: Running<'_>,
-) -> Result<Outcome, Fault> {
+) -> Result<ScriptEnd, Fault> {
     match running.path {
         None | Some(INPUT) => run_source(rt, alloc, running, &mut FromRead::new(rt.reader())),
         Some(path) => run_source(rt, alloc, running, &mut open(rt, path)?),

@@ -5,10 +5,9 @@ use crate::checking::{INPUT, fault_of};
 use crate::devices::{asked_setup, read_asked};
 use crate::faults::Fault;
 use crate::files::{read_whole, read_whole_from};
-use crate::outcomes::{Outcome, outcome_by};
 use crate::visible::Visible;
-use drm_shrinking::{ShrinkFault, Shrunk, shrink_script};
-use drm_streams::{ToWrite, put_all};
+use drm_checks::{ShrinkFault, Shrunk, shrink_script};
+use drm_frames::{ToWrite, put_all};
 use drm_traffic::PROGRAM;
 use log::{Log, error, info, warn};
 use std::alloc::Global;
@@ -56,8 +55,8 @@ fn tell_search<R: Log>(rt: &R, shrinking: Shrinking<'_>, shrunk: &Shrunk) {
     }
 }
 
-/// Prints a shorter script in which a line is answered the same, logs the result of the search, and returns the outcome
-/// of the program (own). Allocates the texts and a device for each trial.
+/// Prints a shorter script in which a line is answered the same, and logs the result of the search (own). Allocates the
+/// texts and a device for each trial.
 ///
 /// # Errors
 ///
@@ -77,7 +76,7 @@ pub fn shrink<R: Input + Files + Print + AllocGlobal + Log>(
     rt: &R,
     alloc: Global,
     shrinking: Shrinking<'_>,
-) -> Result<Outcome, Fault> {
+) -> Result<(), Fault> {
     let path = shrinking.path;
     let topology = read_asked(rt, shrinking.device)?;
     let setup = asked_setup(rt, shrinking.device.limits, topology.as_ref())?;
@@ -94,5 +93,5 @@ pub fn shrink<R: Input + Files + Print + AllocGlobal + Log>(
     let mut turns = MOST_TURNS;
     fault_of(put_all(&mut sink, shrunk.text.as_slice(), &mut turns))?;
     tell_search(rt, shrinking, &shrunk);
-    Ok(outcome_by(None))
+    Ok(())
 }

@@ -4,7 +4,6 @@ use crate::asked::{AskedDevice, Checking};
 use crate::devices::{TopologyText, asked_setup, read_asked};
 use crate::faults::Fault;
 use crate::files::{read_whole, replace_text, write_fault};
-use crate::outcomes::{Outcome, outcome_by};
 use drm_checks::{UpdateFault, update_script};
 use drm_traffic::PROGRAM;
 use log::{Log, error};
@@ -38,8 +37,7 @@ fn update_file<R: Files + AllocGlobal + Log>(
     }
 }
 
-/// Updates each file, up to the first that can't be updated, and returns the outcome of the program (own). Allocates the devices and
-/// the texts.
+/// Updates each file, up to the first that can't be updated (own). Allocates the devices and the texts.
 ///
 /// # Errors
 ///
@@ -48,10 +46,10 @@ pub fn update<R: Files + AllocGlobal + Log>(
     rt: &R,
     alloc: Global,
     checking: &Checking<'_>,
-) -> Result<Outcome, Fault> {
+) -> Result<(), Fault> {
     let topology = read_asked(rt, checking.device)?;
     for path in checking.files.as_slice() {
         update_file(rt, alloc, checking.device, topology.as_ref(), path)?;
     }
-    Ok(outcome_by(None))
+    Ok(())
 }

@@ -7,7 +7,7 @@ pub const MOST: usize = 255;
 pub const MOST_AT_ONCE: usize = 64;
 
 /// How many connections each listener accepts.
-#[derive(Clone, Copy, Debug, PartialEq, Eq)]
+#[derive(Clone, Copy, Debug, PartialEq)]
 pub struct Counts {
     /// Connections of class `Card`.
     pub cards: u8,

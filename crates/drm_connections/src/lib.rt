@@ -2,13 +2,13 @@
 #![tactic(auto)]
 
 mod accepting;
-mod ahead;
 mod answers;
 mod counts;
 mod notes;
 mod open_connections;
 mod outlet;
 mod peek;
+mod read_ahead;
 mod reporting;
 mod requests;
 
@@ -16,7 +16,7 @@ pub use accepting::{accept_next, accept_unless_asked, note_beyond};
 pub use answers::Answers;
 pub use counts::{Counts, MOST, MOST_AT_ONCE};
 pub use notes::{Note, Notes};
-pub use open_connections::{Asked, Attendance, OpenConnections, Role};
+pub use open_connections::{Asked, ConnectionGuard, OpenConnections, Role};
 pub use outlet::{Outlet, Put, Queue, count_lines, wait_for};
 pub use peek::{Peek, Ready};
 pub use reporting::Reporting;

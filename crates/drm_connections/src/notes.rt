@@ -19,7 +19,7 @@ const MOST: usize = 64;
 const MOST_ONCE: usize = 7;
 
 /// A line to be logged.
-#[derive(Clone, Copy, Debug, PartialEq, Eq)]
+#[derive(Clone, Copy, Debug, PartialEq)]
 pub enum Note {
     /// A connection could not be accepted, by the error of this number, and the listener retries.
     Retried(Class, Option<i32>),

@@ -31,7 +31,7 @@ const FEW: usize = 8;
 const NOTHING: RawFd = -1;
 
 /// What a socket on which a thread waits is.
-#[derive(Clone, Copy, PartialEq, Eq)]
+#[derive(Clone, Copy, PartialEq)]
 pub enum Role {
     /// A listener, or a connection of control.
     Listener,
@@ -321,50 +321,16 @@ impl OpenConnections {
 
     /// Returns the same table, whose connections report their calls to this watch.
     pub fn watched_by(self, watch: Watch) -> OpenConnections {
-        let OpenConnections {
-            alloc,
-            places,
-            left,
-            attended,
-            ended,
-            notes,
-            watch: _unused,
-            plan,
-        } = self;
-        OpenConnections {
-            alloc,
-            places,
-            left,
-            attended,
-            ended,
-            notes,
-            watch: Some(watch),
-            plan,
-        }
+        let mut open = self;
+        open.watch = Some(watch);
+        open
     }
 
     /// Returns the same table, whose connections are subject to the rules of this plan.
     pub fn planned_by(self, plan: Plan) -> OpenConnections {
-        let OpenConnections {
-            alloc,
-            places,
-            left,
-            attended,
-            ended,
-            notes,
-            watch,
-            plan: _unused,
-        } = self;
-        OpenConnections {
-            alloc,
-            places,
-            left,
-            attended,
-            ended,
-            notes,
-            watch,
-            plan: Some(plan),
-        }
+        let mut open = self;
+        open.plan = Some(plan);
+        open
     }
 
     /// Asks all connections to end. A thread that still waits for one gets one that has ended.
@@ -428,7 +394,7 @@ impl OpenConnections {
         self.places.lock(rt).reserve()
     }
 
-    /// Frees a place whose attendance was let go, and returns whether it was.
+    /// Frees a place whose guard was let go, and returns whether it was.
     pub fn free_left<R: Wait>(&self, rt: &R, place: usize) -> bool {
         self.places.lock(rt).free_left(place)
     }
@@ -442,7 +408,7 @@ impl OpenConnections {
         );
     }
 
-    /// Adds a socket at a reserved place, until the attendance is let go. The socket has to be open for as long. If all
+    /// Adds a socket at a reserved place, until the guard is let go. The socket has to be open for as long. If all
     /// were asked to end, it is ended.
     pub fn attend<'a, R: Wait>(
         &'a self,
@@ -450,7 +416,7 @@ impl OpenConnections {
         place: usize,
         socket: RawFd,
         role: Role,
-    ) -> Attendance<'a, R> {
+    ) -> ConnectionGuard<'a, R> {
         let mut places = self.places.lock(rt);
         if places.has_ended {
             shutdown(socket, SHUT_RDWR);
@@ -460,7 +426,7 @@ impl OpenConnections {
         if role == Role::Connection {
             self.attended.fetch_add(1, Ordering::Relaxed);
         }
-        Attendance {
+        ConnectionGuard {
             rt,
             open: self,
             place,
@@ -470,8 +436,9 @@ impl OpenConnections {
     }
 }
 
-/// That a thread waits on a socket. It has to be let go before the socket is closed.
-pub struct Attendance<'a, R: Wait> {
+/// The place of a socket on which a thread waits. The place is left when this is dropped, which has to be before the socket is
+/// closed.
+pub struct ConnectionGuard<'a, R: Wait> {
     rt: &'a R,
     open: &'a OpenConnections,
     place: usize,
@@ -480,7 +447,7 @@ pub struct Attendance<'a, R: Wait> {
     role: Role,
 }
 
-impl<R: Wait> Attendance<'_, R> {
+impl<R: Wait> ConnectionGuard<'_, R> {
     /// Returns whether more than [`FEW`] connections are open.
     pub(crate) fn is_crowded(&self) -> bool {
         self.open.attended.load(Ordering::Relaxed) > FEW
@@ -502,7 +469,7 @@ impl<R: Wait> Attendance<'_, R> {
     }
 }
 
-impl<R: Wait> Drop for Attendance<'_, R> {
+impl<R: Wait> Drop for ConnectionGuard<'_, R> {
     fn drop(self) {
         let Self {
             rt,

@@ -5,9 +5,9 @@ ghost use Rattle.std.specs.Io.{ReadsAtMost};
 ghost use Rattle.std.specs.Io.KnownBytes.{Keeps, ReadConsumes};
 ghost use Rattle.drm_connections.specs.Requests.{IsSettled, requests_left};
 
-use crate::ahead::Ahead;
-use crate::open_connections::Attendance;
+use crate::open_connections::ConnectionGuard;
 use crate::peek::{Peek, Ready};
+use crate::read_ahead::ReadAhead;
 use std::alloc::Global;
 use std::io;
 use std::io::{ErrorKind, Read};
@@ -56,8 +56,8 @@ impl From<Lost> for io::Error {
 #[derive(Drop)]
 pub struct Requests<'a, S: Peek, R: Wait> {
     stream: S,
-    attendance: &'a Attendance<'a, R>,
-    ahead: Ahead,
+    guard: &'a ConnectionGuard<'a, R>,
+    ahead: ReadAhead,
     /// Whether the client sends no more.
     has_ended: bool,
     /// How many bytes were looked at, handed on, and are still in the stream.
@@ -72,13 +72,13 @@ pub struct Requests<'a, S: Peek, R: Wait> {
 
 impl<'a, S: Peek, R: Wait> Requests<'a, S, R> {
     /// Creates a reader of what the stream brings.
-    pub fn new(alloc: Global, stream: S, attendance: &'a Attendance<'a, R>) -> Requests<'a, S, R>
+    pub fn new(alloc: Global, stream: S, guard: &'a ConnectionGuard<'a, R>) -> Requests<'a, S, R>
         ensures { Keeps (S.remaining stream) (requests_left S.remaining result) }
     {
         Requests {
             stream,
-            attendance,
-            ahead: Ahead::new(alloc),
+            guard,
+            ahead: ReadAhead::new(alloc),
             has_ended: false,
             seen: 0,
             share: SHARE,
@@ -152,7 +152,7 @@ impl<'a, S: Peek, R: Wait> Requests<'a, S, R> {
         if !self.ahead.as_slice().is_empty() {
             return Ok(self.ahead.take(buf));
         }
-        if self.lacking > 0 || self.attendance.is_crowded() {
+        if self.lacking > 0 || self.guard.is_crowded() {
             return self.stream.read(buf);
         }
         let count = self.stream.peek(buf)?;
@@ -167,7 +167,7 @@ impl<'a, S: Peek, R: Wait> Requests<'a, S, R> {
         if self.lacking > 0 {
             self.lacking = self.lacking.saturating_sub(count);
             if self.lacking == 0 {
-                self.attendance.admit();
+                self.guard.admit();
             }
         }
     }

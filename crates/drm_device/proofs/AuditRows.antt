@@ -6,7 +6,7 @@ use Rattle.std.specs.Option.{option_map, option_map_or}
 use Rattle.std.proofs.lemmas.Bool.Decides.{nat_tests}
 use Rattle.std.proofs.lemmas.Option.{slice_get-map}
 use Rattle.std.proofs.lemmas.Bool.{or_left}
-use Rattle.drm_lists.specs.Orders.{InOrder, SameRows, sorted_by}
+use Rattle.drm_index_array.specs.Orders.{InOrder, SameRows, sorted_by}
 use Rattle.drm_index_array.specs.Rows as rows
 use Rattle.drm_modes.specs.declared.rows.Framebuffer.{Framebuffer}
 use Rattle.drm_modes.specs.declared.rows.Shown.{Shown}
@@ -15,11 +15,11 @@ use Rattle.drm_share.specs.declared.rows.SharedName.{SharedName}
 use Rattle.drm_share.specs.declared.rows.SharedToken.{SharedToken}
 use Rattle.drm_share.specs.Names.{AreNames, name_before}
 use Rattle.drm_share.specs.Tokens.{AreTokens, token_before}
-use Rattle.drm_lists.specs.Numbers.{is_among, count}
-use Rattle.drm_lists.proofs.Lists.{map-map, all_weaker}
-use Rattle.drm_lists.proofs.FoundInLists.{all_at}
-use Rattle.drm_lists.proofs.Numbers.{among-left, among-right, among-more, count_of, count-append}
-use Rattle.drm_lists.proofs.Orders.{RisesTo, sorted-as_is, sorted-same, same-map, in_order_map, in_order_weaker}
+use Rattle.drm_index_array.specs.Numbers.{is_among, count}
+use Rattle.drm_index_array.proofs.Lists.{map-map, all_weaker}
+use Rattle.drm_index_array.proofs.FoundInLists.{all_at}
+use Rattle.drm_index_array.proofs.Numbers.{among-left, among-right, among-more, count_of, count-append}
+use Rattle.drm_index_array.proofs.Orders.{RisesTo, sorted-as_is, sorted-same, same-map, in_order_map, in_order_weaker}
 use Rattle.drm_table.specs.declared.audits.AuditRow.{AuditRow}
 use Rattle.drm_table.specs.declared.audits.AuditKind.TheVariants as kinds
 use Rattle.drm_gem.specs.declared.object.Object.{Object}

@@ -4,13 +4,13 @@ use Rattle.std.specs.List.{filter_map, list_any, AllByRecursion}
 use Rattle.std.specs.Option.{is_some, option_and_then}
 use Rattle.std.proofs.lemmas.Bool.{leb-true, eqb-true, and_parts}
 use Rattle.std.proofs.lemmas.Bool.Decides.{nat_tests}
-use Rattle.drm_lists.specs.Orders.{InOrder}
+use Rattle.drm_index_array.specs.Orders.{InOrder}
 use Rattle.std.specs.Prelude.{unwrap_or}
 use Rattle.std.proofs.lemmas.List.{length-map, length-append}
 use Rattle.std.proofs.Math.Seq.{take-append_seam}
-use Rattle.drm_lists.proofs.Orders.{same-any, same-length}
-use Rattle.drm_lists.proofs.Rising.{found}
-use Rattle.drm_lists.proofs.Lists.{all_weaker, all_of_map}
+use Rattle.drm_index_array.proofs.Orders.{same-any, same-length}
+use Rattle.drm_index_array.proofs.Rising.{found}
+use Rattle.drm_index_array.proofs.Lists.{all_weaker, all_of_map}
 use Rattle.drm_gem.specs.declared.object.Object.{Object}
 use Rattle.drm_gem.specs.Objects.{ObjectSet}
 use Rattle.drm_files.specs.declared.rows.FileHandle.{FileHandle}

@@ -7,7 +7,7 @@ ghost use Rattle.drm_model.specs.Audit as model;
 ghost use Rattle.std.specs.Option.{option_map, option_map_or, option_and_then};
 ghost use Rattle.drm_model.specs.Rows.{magic_row};
 ghost use Rattle.drm_model.specs.Audit.{audit_row, client_audit, framebuffer_audit, grant_audit, handle_audit, master_audit, name_audit, shown_audit, token_audit};
-ghost use Rattle.drm_lists.specs.Numbers.{is_among};
+ghost use Rattle.drm_index_array.specs.Numbers.{is_among};
 ghost use Rattle.drm_share.specs.Names.{AreNames};
 ghost use Rattle.drm_share.specs.Tokens.{AreTokens};
 ghost use Rattle.drm_modes.specs.Modes.{shown_rows};

@@ -82,7 +82,7 @@ impl Model for Device {
 /// let Err(fault) = Device::new(alloc, topology, limits) else { return };
 /// assert!(rt; fault == NewFault::BadLimits);
 /// ```
-#[derive(Clone, Copy, PartialEq, Eq, Debug)]
+#[derive(Clone, Copy, PartialEq, Debug)]
 pub enum NewFault {
     /// A limit is out of its range.
     BadLimits,

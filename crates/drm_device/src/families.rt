@@ -11,18 +11,19 @@ ghost use Rattle.drm_table.specs.declared.rows.Family.TheVariants.{Device, Maste
 
 use crate::audits::audit;
 use crate::capabilities::{get_cap, version};
-use drm_buffer_calls::{
-    Pixels, buf_create, create_dumb, gem_close, list_handles, stamp_read, stamp_write,
+use drm_client_calls::{
+    Pixels, buf_create, create_dumb, gem_close, gem_flink, gem_open, list_handles, prime_export,
+    prime_import, set_client_cap, stamp_read, stamp_write, token_close,
 };
-use drm_client_calls::set_client_cap;
-use drm_lease_calls::{create_lease, get_lease, list_lessees, revoke_lease};
-use drm_master_calls::{auth_magic, drop_master, get_magic, set_master};
+use drm_master_calls::{
+    auth_magic, create_lease, drop_master, get_lease, get_magic, list_lessees, revoke_lease,
+    set_master,
+};
 use drm_mode_calls::{
     add_fb, get_connector, get_crtc, get_encoder, get_fb, get_plane, get_plane_resources,
     get_resources, rm_fb, set_crtc, set_plane,
 };
 use drm_modes::Shape;
-use drm_share_calls::{gem_flink, gem_open, prime_export, prime_import, token_close};
 use drm_state::{Memory, PrimaryCaller, State};
 use drm_table::{Answer, Call};
 use std::alloc::AllocError;

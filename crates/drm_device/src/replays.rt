@@ -22,7 +22,7 @@ use std::alloc::Global;
 /// let Err(fault) = replay(alloc, topology, limits, &[]) else { return };
 /// assert!(rt; fault == ReplayFault::New(NewFault::BadLimits));
 /// ```
-#[derive(Clone, Copy, PartialEq, Eq, Debug)]
+#[derive(Clone, Copy, PartialEq, Debug)]
 pub enum ReplayFault {
     /// There is no device to begin with.
     New(NewFault),

@@ -1,9 +1,9 @@
 //! Files that check themselves over sources and sinks that are cut. `tests/test_checks.py` has what else a check reports.
 
 use crate::comparing::same;
-use drm_checks::{Report, check_script};
-use drm_runs::ScriptEnd;
-use drm_test_streams::{Cut, sink_of, source_of};
+use drm_checks::{Report, check_on};
+use drm_runs::{ScriptEnd, Setup};
+use drm_test_support::{Cut, sink_of, source_of};
 use std::alloc::Global;
 use std::process::Abort;
 
@@ -57,7 +57,16 @@ fn check_file(
 ) {
     let mut source = source_of(file.text, piece, cuts[0]);
     let mut sink = sink_of(512, cuts[1]);
-    let report = check_script(alloc, "f", &mut source, &mut sink, turns.min(TURNS));
+    let turns = turns.min(TURNS);
+    let (report, _) = check_on(
+        alloc,
+        Setup::usual(),
+        "f",
+        "",
+        &mut source,
+        &mut sink,
+        turns,
+    );
     let expected = Report {
         end: file.end,
         passed: file.passed,

@@ -2,6 +2,4 @@
 
 mod checks;
 mod device;
-mod journals;
 mod runs;
-mod shrinking;

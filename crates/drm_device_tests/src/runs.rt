@@ -2,7 +2,7 @@
 
 use crate::comparing::same;
 use drm_runs::{ScriptEnd, run_script};
-use drm_test_streams::{Cut, sink_of, source_of};
+use drm_test_support::{Cut, sink_of, source_of};
 use std::alloc::Global;
 use std::process::Abort;
 

@@ -1,8 +1,8 @@
 //! A search for a shorter script that ends early. `tests/test_shrinking.py` has what is left of scripts.
 
 use crate::comparing::same;
+use drm_checks::shrink_script;
 use drm_runs::Setup;
-use drm_shrinking::shrink_script;
 use std::process::Abort;
 
 #[test]

@@ -6,7 +6,5 @@ mod refusals;
 mod rights;
 mod script;
 mod sentences;
-mod streams;
 mod table;
-mod topologies;
 mod trails;

@@ -2,8 +2,8 @@
 use Rattle.std.proofs.Common.{◌≡◌, ℕ, ◌+◌, ◌<◌, List, [], ◌∷◌, length, get_or, drop, refl, sym, ◌∙◌, arith, Bool, true, false, ◌||◌, zero, suc}
 use Rattle.std.proofs.lemmas.List.{get_or-drop}
 use Rattle.drm_history.specs.History.{AnsweredEvent}
-use Rattle.drm_authority.specs.Closings.{closes, has_closed}
-use Rattle.drm_authority.specs.Effects.{effect}
+use Rattle.drm_history.specs.Closings.{closes, has_closed}
+use Rattle.drm_history.specs.Effects.{effect}
 use Rattle.drm_trails.specs.Steps.{entry_of, followed_by, history_of}
 use Rattle.drm_trails.specs.declared.steps.Step.{Step}
 

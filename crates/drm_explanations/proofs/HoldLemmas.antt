@@ -7,9 +7,9 @@ use Rattle.std.proofs.lemmas.List.{take_more}
 use Rattle.std.proofs.lemmas.Option.{get_or_from_slice_get, slice_get-get_or}
 use Rattle.drm_history.specs.History.{AnsweredEvent}
 use Rattle.drm_history.specs.Holds.{Has}
-use Rattle.drm_lists.specs.Orders.{InOrder}
-use Rattle.drm_lists.proofs.Lists.{all_append, all_weaker, list_any_left, list_any_right, some_passing}
-use Rattle.drm_lists.proofs.Orders.{in_order_append}
+use Rattle.drm_index_array.specs.Orders.{InOrder}
+use Rattle.drm_index_array.proofs.Lists.{all_append, all_weaker, list_any_left, list_any_right, some_passing}
+use Rattle.drm_index_array.proofs.Orders.{in_order_append}
 use Rattle.drm_trails.specs.Chains.{HasNone, IsOfDevice}
 use Rattle.drm_trails.specs.Handles.{is_given_at, is_held_since}
 use Rattle.drm_trails.specs.Searches.{last_gift}

@@ -7,17 +7,17 @@ use Rattle.std.proofs.lemmas.Bool.{eqb-true}
 use Rattle.std.proofs.lemmas.Bool.Decides.{nat_tests}
 use Rattle.std.proofs.lemmas.List.{reverse-append}
 use Rattle.std.proofs.lemmas.List.Elements.{All-from_recursion, All-get_or}
-use Rattle.drm_lists.proofs.FoundInLists.{all_found, is_some-find}
-use Rattle.drm_lists.proofs.Lists.{all_append}
+use Rattle.drm_index_array.proofs.FoundInLists.{all_found, is_some-find}
+use Rattle.drm_index_array.proofs.Lists.{all_append}
 use Rattle.drm_history.specs.History.{AnsweredEvent, next_number}
-use Rattle.drm_authority.specs.Effects as told
-use Rattle.drm_authority.specs.Effects.{effect}
+use Rattle.drm_history.specs.Effects as told
+use Rattle.drm_history.specs.Effects.{effect}
 use Rattle.drm_model.specs.ClientCapabilities.{cap_universal_planes}
 use Rattle.drm_model.specs.Rows.{is_option}
-use Rattle.drm_authority.specs.Magics.{is_named_by, is_named_in, is_root_by, is_root_in, magic_in}
-use Rattle.drm_authority.specs.MasterState as standings
-use Rattle.drm_authority.specs.MasterState.{caller_master_in, lease_in, owner_in}
-use Rattle.drm_authority.specs.Lessees.{ends}
+use Rattle.drm_history.specs.Magics.{is_named_by, is_named_in, is_root_by, is_root_in, magic_in}
+use Rattle.drm_history.specs.MasterState as standings
+use Rattle.drm_history.specs.MasterState.{caller_master_in, lease_in, owner_in}
+use Rattle.drm_history.specs.Lessees.{ends}
 use Rattle.drm_rights.specs.Leases.{ended_at, leases_in, new_lease}
 use Rattle.drm_rights.specs.Ledgers.{authenticated_by, authentication_of, authentications_in, capabilities_in, capability_of, capable, is_named_noted, master_state_of, new_authentication, new_capability, new_master_state, noted, opened, owner_since_in, is_same_master, standings_in}
 use Rattle.drm_trails.specs.Steps.{entry_of, followed_by, history_of}

@@ -13,14 +13,14 @@ use Rattle.drm_model.specs.Rows.{is_option}
 use Rattle.drm_modes.specs.Topology.{Topology, crtc_ids, plane_ids, is_primary_or_cursor}
 use Rattle.drm_history.specs.History.{AnsweredEvent}
 use Rattle.drm_history.specs.Holds.{Has}
-use Rattle.drm_lists.specs.Numbers.{is_among}
-use Rattle.drm_lists.specs.Orders.{InOrder}
-use Rattle.drm_authority.specs.Lessees.{top_in, lessor_in, has_ended}
-use Rattle.drm_authority.specs.Closings.{closes, has_closed}
-use Rattle.drm_authority.specs.Effects.{effect}
-use Rattle.drm_authority.specs.Magics.{is_root_in, known}
-use Rattle.drm_authority.specs.MasterState.{is_master_in, master_in}
-use Rattle.drm_authority.specs.Shown.{is_universal_in}
+use Rattle.drm_index_array.specs.Numbers.{is_among}
+use Rattle.drm_index_array.specs.Orders.{InOrder}
+use Rattle.drm_history.specs.Lessees.{top_in, lessor_in, has_ended}
+use Rattle.drm_history.specs.Closings.{closes, has_closed}
+use Rattle.drm_history.specs.Effects.{effect}
+use Rattle.drm_history.specs.Magics.{is_root_in, known}
+use Rattle.drm_history.specs.MasterState.{is_master_in, master_in}
+use Rattle.drm_history.specs.Shown.{is_universal_in}
 use Rattle.drm_trails.specs.Chains.{IsOfDevice}
 use Rattle.drm_rights.specs.Leases.{ended_at, lent_in}
 use Rattle.drm_rights.specs.Ledgers.{authentication_of, authentications_in, capabilities_in, capability_of, is_current_in, controls_in, lease_client_in, master_state_of, owner_since_in, standings_in}

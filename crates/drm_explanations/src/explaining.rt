@@ -1,7 +1,7 @@
 //! The explanation of a history.
 
 ghost use Rattle.std.specs.Prelude.{◌≡◌, IfOk, All, map, length};
-ghost use Rattle.drm_authority.specs.MasterState.{owner_in};
+ghost use Rattle.drm_history.specs.MasterState.{owner_in};
 ghost use Rattle.drm_rights.specs.Leases.{leases_in};
 ghost use Rattle.drm_explanations.specs.Rows as rows;
 

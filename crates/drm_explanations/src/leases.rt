@@ -2,7 +2,7 @@
 
 ghost use Rattle.std.specs.Prelude.{◌≡◌, true, IfOk, IfSome, All, None, Some, map, if◌then◌else◌};
 ghost use Rattle.std.specs.Option.{option_map};
-ghost use Rattle.drm_authority.specs.Lessees.{has_ended};
+ghost use Rattle.drm_history.specs.Lessees.{has_ended};
 ghost use Rattle.drm_rights.specs.Leases.{ended_at, leases_in};
 ghost use Rattle.drm_explanations.specs.Rows as rows;
 ghost use Rattle.drm_explanations.specs.Steps.{TellsStep};

@@ -90,7 +90,7 @@ pub fn lines_of(
 /// let subject = Subject::Client(1);
 /// assert!(rt; subject != Subject::Device);
 /// ```
-#[derive(Clone, Copy, PartialEq, Eq, Debug)]
+#[derive(Clone, Copy, PartialEq, Debug)]
 pub enum Subject {
     /// The device's master.
     Device,

@@ -37,7 +37,7 @@ pub(crate) fn label_of(labels: &Labels, client: u64) -> Option<char>
 /// labels[0] = 1;
 /// assert!(rt; Name::of(&labels, 1) != Name::of(&labels, 2));
 /// ```
-#[derive(Clone, Copy, PartialEq, Eq, Debug)]
+#[derive(Clone, Copy, PartialEq, Debug)]
 pub struct Name {
     client: u64,
     label: Option<char>,

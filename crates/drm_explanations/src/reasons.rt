@@ -2,11 +2,11 @@
 
 ghost use Rattle.std.specs.Prelude.{◌≡◌, true, IfOk, IfSome};
 ghost use Rattle.std.specs.Option.{is_some};
-ghost use Rattle.drm_authority.specs.Magics.{known};
+ghost use Rattle.drm_history.specs.Magics.{known};
 ghost use Rattle.drm_rights.specs.Ledgers.{capabilities_in, capability_of, master_state_of, standings_in};
-ghost use Rattle.drm_authority.specs.Closings as closings;
-ghost use Rattle.drm_authority.specs.Closings.{has_closed};
-ghost use Rattle.drm_authority.specs.Effects.{effect};
+ghost use Rattle.drm_history.specs.Closings as closings;
+ghost use Rattle.drm_history.specs.Closings.{has_closed};
+ghost use Rattle.drm_history.specs.Effects.{effect};
 ghost use Rattle.drm_trails.specs.Steps.{entry_of, history_of};
 ghost use Rattle.drm_explanations.specs.Rows as rows;
 

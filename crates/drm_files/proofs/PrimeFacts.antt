@@ -10,7 +10,7 @@ use Rattle.std.specs.FinMap.Entries.{find}
 use Rattle.std.proofs.lemmas.Bool.{false≢true, eqb-true, and_parts, and_from}
 use Rattle.std.proofs.lemmas.Bool.Decides.{nat_tests}
 use Rattle.std.proofs.lemmas.Option.{same_Some, none-some}
-use Rattle.drm_lists.proofs.Lists.{some_passing, all_of_map}
+use Rattle.drm_index_array.proofs.Lists.{some_passing, all_of_map}
 use Rattle.drm_index_array.specs.Least.{least_of}
 use Rattle.drm_index_array.proofs.Least.{least_of_is}
 use Rattle.drm_index_array.proofs.RowsByKey.{all_rows}

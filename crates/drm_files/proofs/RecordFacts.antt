@@ -7,7 +7,7 @@ use Rattle.std.specs.FinMap as fin
 use Rattle.std.specs.FinMap.Entries.{is_sorted}
 use Rattle.std.proofs.lemmas.Bool.{cases_eq, false≢true}
 use Rattle.std.proofs.lemmas.Bool.Decides.{nat_tests}
-use Rattle.drm_lists.proofs.FoundInLists.{is_some-false}
+use Rattle.drm_index_array.proofs.FoundInLists.{is_some-false}
 use Rattle.drm_index_array.specs.Least.{least}
 use Rattle.drm_index_array.proofs.Least.{least-same}
 use Rattle.drm_index_array.proofs.MarkedLemmas.{get-insert, get-remove, insert_same, same_by_gets}

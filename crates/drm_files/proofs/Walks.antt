@@ -6,7 +6,7 @@ use Rattle.std.specs.FinMap.{nat_cmp-IsAntisymmetric}
 use Rattle.std.specs.FinMap.Entries.{find, where_key, is_sorted, below_all, is_sorted-where_key, find-where_key, same_entries}
 use Rattle.std.proofs.lemmas.Bool.{cases_lt, cases_eq, false≢true}
 use Rattle.std.proofs.lemmas.Bool.Decides.{nat_tests}
-use Rattle.drm_lists.proofs.FoundInLists.{is_some-false}
+use Rattle.drm_index_array.proofs.FoundInLists.{is_some-false}
 use Rattle.drm_index_array.specs.Least.{IsLeast}
 use Rattle.drm_index_array.proofs.MarkedLemmas.{eq_by_cmp-nat_cmp}
 use Rattle.drm_index_array.proofs.RowsByKey.{both}

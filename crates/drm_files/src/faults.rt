@@ -11,7 +11,7 @@
 /// let mut files = Files::new(alloc, 0, 100);
 /// assert!(rt; files.open(1, false, false, true) == Err(FileFault::Full));
 /// ```
-#[derive(Clone, Copy, PartialEq, Eq, Debug)]
+#[derive(Clone, Copy, PartialEq, Debug)]
 pub enum FileFault {
     /// The limit of clients is reached, or the client has every handle.
     Full,

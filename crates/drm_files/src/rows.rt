@@ -18,14 +18,14 @@ use drm_gem::ObjectKey;
 /// files.set_capability(1, ClientCapability::UniversalPlanes, true);
 /// assert!(rt; matches!(files.flags_of(1), Some(flags) if flags.universal));
 /// ```
-#[derive(Clone, Copy, PartialEq, Eq, Debug)]
+#[derive(Clone, Copy, PartialEq, Debug)]
 pub enum ClientCapability {
     /// Primary and cursor planes are shown next to overlay planes (`DRM_CLIENT_CAP_UNIVERSAL_PLANES`).
     UniversalPlanes,
 }
 
 /// The flags of a client (drm-uapi: primary and render nodes, authentication).
-#[derive(Clone, Copy, PartialEq, Eq, Debug)]
+#[derive(Clone, Copy, PartialEq, Debug)]
 pub struct FileFlags {
     /// Whether it opened the render node.
     pub render: bool,
@@ -53,7 +53,7 @@ impl FileFlags {
 }
 
 /// An open client.
-#[derive(Clone, Copy, PartialEq, Eq, Debug)]
+#[derive(Clone, Copy, PartialEq, Debug)]
 pub struct FileClient {
     /// Its number.
     pub client: u32,
@@ -74,7 +74,7 @@ pub struct FileClient {
 /// let flags = FileFlags { render: false, root: true, authenticated: true, universal: true };
 /// assert!(rt; files.nth(1, 0) == Some(FileRow::Client(FileClient { client: 1, flags })));
 /// ```
-#[derive(Clone, Copy, PartialEq, Eq, Debug)]
+#[derive(Clone, Copy, PartialEq, Debug)]
 pub enum FileRow {
     /// A row of kind 1.
     Client(FileClient),
@@ -98,7 +98,7 @@ pub enum FileRow {
 /// let hold = FileHandle { client: 1, handle, object, export_order: Some(3) };
 /// assert!(rt; files.nth_handle(0) == Some(hold));
 /// ```
-#[derive(Clone, Copy, PartialEq, Eq, Debug)]
+#[derive(Clone, Copy, PartialEq, Debug)]
 pub struct FileHandle {
     /// The client that has it.
     pub client: u32,

@@ -1,3 +1,7 @@
+pub mod Traces
+pub mod CallCounts
+pub mod PutSoFar
+pub mod TextLemmas
 pub mod PageLaws
 pub mod NumberBytes
 pub mod Sizes

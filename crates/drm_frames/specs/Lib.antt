@@ -1,3 +1,6 @@
+pub mod Streams
+pub mod Texts
+pub mod Turns
 pub mod Number
 pub mod Grammar
 pub mod Decoding

@@ -7,7 +7,7 @@ use crate::number::u32_in;
 use crate::text::FrameBytes;
 
 /// The first frame of a client (own).
-#[derive(Clone, Copy, Debug, PartialEq, Eq)]
+#[derive(Clone, Copy, Debug, PartialEq)]
 pub struct Hello {
     /// The version of the protocol: 1, or 2, which opens the client with universal planes off.
     pub version: u32,

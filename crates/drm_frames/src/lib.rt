@@ -1,4 +1,4 @@
-//! Frames: requests, hellos and answers as bytes, and the sources and sinks that carry them.
+//! Sources and sinks of bytes, and frames: requests, hellos and answers as bytes.
 //!
 //! No function of this crate allocates. An example is the body of a function that has the runtime `rt`.
 #![tactic(auto)]
@@ -15,11 +15,14 @@ mod pages;
 mod refusals;
 mod requests;
 mod results;
+mod sink;
+mod source;
 mod text;
+mod texts;
+mod turns;
 
 pub use answers::{AnswerText, encode_answer};
 pub use decoding::{Decoded, decode};
-pub use drm_streams::{FromRead, Put, Sink, Source, Taken, ToWrite};
 pub use frame::Frame;
 pub use hello::{Hello, encode_hello, hello_of};
 pub use laws::{
@@ -30,4 +33,8 @@ pub use laws::{
 };
 pub use requests::{call_of, encode_call, read_call};
 pub use results::answer_of;
+pub use sink::{Put, Sink, ToWrite};
+pub use source::{FromRead, Source, Taken};
 pub use text::FrameBytes;
+pub use texts::put_each;
+pub use turns::{Refill, Written, put_all, take_some};

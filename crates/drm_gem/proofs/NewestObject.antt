@@ -1,9 +1,9 @@
 -- An object younger than all others.
 use Rattle.std.proofs.Common.{◌≡◌, ℕ, ◌<◌, ◌==◌, true, false, List, [], ◌∷◌, ◌++◌, ap}
 use Rattle.std.proofs.lemmas.Bool.{lt-ltb}
-use Rattle.drm_lists.proofs.Lists.{all_weaker}
-use Rattle.drm_lists.proofs.Numbers.{less-differ}
-use Rattle.drm_lists.proofs.Placed.{placed_last}
+use Rattle.drm_index_array.proofs.Lists.{all_weaker}
+use Rattle.drm_index_array.proofs.Numbers.{less-differ}
+use Rattle.drm_index_array.proofs.Placed.{placed_last}
 use Rattle.drm_gem.specs.declared.object.Object.{Object}
 use Rattle.drm_gem.specs.Objects.{ObjectSet, IsNewStepNumber, IsUnusedBirth, is_older, new_object, with_object}
 

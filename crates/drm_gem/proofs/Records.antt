@@ -5,9 +5,9 @@ use Rattle.std.specs.List.{AllByRecursion}
 use Rattle.std.specs.FinMap as fin
 use Rattle.std.proofs.lemmas.Bool.{eqb-true}
 use Rattle.slab.specs.Slab.{Slab, get, Updates}
-use Rattle.drm_lists.specs.Orders.{InOrder}
-use Rattle.drm_lists.proofs.Lists.{all_weaker, filter-same}
-use Rattle.drm_lists.proofs.Numbers.{flipped}
+use Rattle.drm_index_array.specs.Orders.{InOrder}
+use Rattle.drm_index_array.proofs.Lists.{all_weaker, filter-same}
+use Rattle.drm_index_array.proofs.Numbers.{flipped}
 use Rattle.drm_keys.specs.Keys.{rows_in, IsKeyed}
 use Rattle.drm_keys.proofs.KeyLemmas.{only_one, replaced, removed}
 use Rattle.drm_gem.specs.declared.object.Object.{Object}

@@ -14,7 +14,7 @@ use std::marker::Model;
 ///
 /// let key = ObjectKey::from_number(7);
 /// ```
-#[derive(Clone, Copy, PartialEq, Eq, Debug)]
+#[derive(Clone, Copy, PartialEq, Debug)]
 pub struct ObjectKey {
     number: u32,
 }

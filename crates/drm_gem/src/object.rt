@@ -15,7 +15,7 @@ use crate::keys::ObjectKey;
 /// let Some(object) = objects.get(key) else { return };
 /// assert!(rt; object.step_number == 3 && object.size == 4096 && object.holds == 1);
 /// ```
-#[derive(Clone, Copy, PartialEq, Eq, Debug)]
+#[derive(Clone, Copy, PartialEq, Debug)]
 pub struct Object {
     /// The object's key while it exists.
     pub key: ObjectKey,
@@ -45,7 +45,7 @@ pub struct Object {
 /// let gone = Dead { birth: 3, size: 4096 };
 /// assert!(rt; objects.unhold(key) == Some(gone));
 /// ```
-#[derive(Clone, Copy, PartialEq, Eq, Debug)]
+#[derive(Clone, Copy, PartialEq, Debug)]
 pub struct Dead {
     /// The number of the step that created it.
     pub birth: u32,

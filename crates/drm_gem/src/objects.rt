@@ -2,7 +2,7 @@
 
 ghost use Rattle.std.specs.Prelude.{◌≡◌, ◌<◌, ◌≤◌, ◌↔◌, ◌==◌, true, false, None, Some, [], length, slice_get, nat_le, nat_lt, OnOk, OnErr, IfOk, IfErr, OnSome, IfNone};
 ghost use Rattle.std.specs.Option.{option_map};
-ghost use Rattle.drm_lists.specs.Orders.{InOrder};
+ghost use Rattle.drm_index_array.specs.Orders.{InOrder};
 ghost use Rattle.drm_gem.specs.declared.object.Object as gem;
 ghost use Rattle.drm_gem.specs.declared.objects.CreateFault.TheVariants as fault;
 ghost use Rattle.drm_gem.specs.Objects.{IsUnusedBirth, with_object, changed_at, without_key, object_at, is_there, passes, held, unheld, referred, unreferred, stamped, dead_after, nth_row};
@@ -28,7 +28,7 @@ const OBJECT_KIND: u32 = 3;
 /// let mut full = Objects::new(alloc, 0);
 /// assert!(rt; full.create(1, 4096) == Err(CreateFault::Full));
 /// ```
-#[derive(Clone, Copy, PartialEq, Eq, Debug)]
+#[derive(Clone, Copy, PartialEq, Debug)]
 pub enum CreateFault {
     /// The limit of objects is reached.
     Full,

@@ -4,8 +4,8 @@ use Rattle.std.specs.Prelude.{if◌then◌else◌, unwrap_or}
 use Rattle.std.specs.List.{AllByRecursion}
 use Rattle.std.specs.Option.{is_some, option_map, option_and_then, option_or}
 use Rattle.std.proofs.lemmas.Bool.{eqb-true, and_parts}
-use Rattle.drm_lists.specs.Numbers.{is_among}
-use Rattle.drm_lists.proofs.Lists.{all_both, all_filter, filter_true, list_any-map, some_passing}
+use Rattle.drm_index_array.specs.Numbers.{is_among}
+use Rattle.drm_index_array.proofs.Lists.{all_both, all_filter, filter_true, list_any-map, some_passing}
 use Rattle.drm_index_array.specs.Least.{least_of}
 use Rattle.drm_index_array.proofs.Least.{least_of_some}
 use Rattle.drm_table.specs.Permit.{Check}
@@ -25,7 +25,7 @@ use Rattle.drm_history.proofs.HoldSteps.{object_at, all_held, holds_stay, holds_
 use Rattle.drm_history.proofs.NumberSteps.{WasAdded, added_still, added_more, numbered_told, numbered_found, numbered_still, numbered_more, numbered_again, owned_fewer, owned_still, owned_more}
 use Rattle.drm_history.proofs.Facts.{Facts, FactsOf, name_number, name_object, token_number, token_object, token_client, framebuffer_number, framebuffer_object as object_of_framebuffer, framebuffer_client, numbers_still, silent, taking}
 use Rattle.drm_history.proofs.NumbersOfNoRow.{some_of, least_is_free, next_is_free, free_is_none, free_is_some, held_object}
-use Rattle.drm_lists.proofs.Numbers.{same_either}
+use Rattle.drm_index_array.proofs.Numbers.{same_either}
 
 -- the step of an accepted call
 abbrev pub asked_step : Rows → ℕ → Call → AnsweredEvent

@@ -1,7 +1,7 @@
 -- What a history describes rows, kept by every step.
 use Rattle.std.proofs.Common.{◌≡◌, ℕ, Bool, false, List, ◌∷◌, length, filter, None}
 use Rattle.std.specs.List.{AllByRecursion}
-use Rattle.drm_lists.proofs.Lists.{all_filter}
+use Rattle.drm_index_array.proofs.Lists.{all_filter}
 use Rattle.drm_model.specs.Rows.{Rows, HandleRow, NameRow, TokenRow, FramebufferRow}
 use Rattle.drm_model.specs.Change.{swept, journaled}
 use Rattle.drm_history.specs.History.{AnsweredEvent}

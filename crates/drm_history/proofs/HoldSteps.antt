@@ -5,12 +5,12 @@ use Rattle.std.specs.List.{AllByRecursion}
 use Rattle.std.specs.Option.{option_map, option_or}
 use Rattle.std.proofs.lemmas.Bool.{eqb-true, and_parts}
 use Rattle.std.proofs.lemmas.List.Folds.{find-append}
-use Rattle.drm_lists.specs.Orders.{InOrder}
-use Rattle.drm_lists.proofs.Lists.{all_both, all_weaker}
-use Rattle.drm_lists.proofs.FoundInLists.{none_found}
-use Rattle.drm_lists.proofs.Numbers.{same_either}
-use Rattle.drm_lists.proofs.Orders.{in_order_filter, in_order_append}
-use Rattle.drm_lists.proofs.Rising.{in_order_kept}
+use Rattle.drm_index_array.specs.Orders.{InOrder}
+use Rattle.drm_index_array.proofs.Lists.{all_both, all_weaker}
+use Rattle.drm_index_array.proofs.FoundInLists.{none_found}
+use Rattle.drm_index_array.proofs.Numbers.{same_either}
+use Rattle.drm_index_array.proofs.Orders.{in_order_filter, in_order_append}
+use Rattle.drm_index_array.proofs.Rising.{in_order_kept}
 use Rattle.drm_model.specs.Rows.{HandleRow, is_handle}
 use Rattle.drm_history.specs.History.{AnsweredEvent, next_number}
 use Rattle.drm_history.specs.Steps.{Source, Creation, Transfer, takes}

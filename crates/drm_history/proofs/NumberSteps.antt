@@ -4,12 +4,12 @@ use Rattle.std.specs.Prelude.{unwrap_or}
 use Rattle.std.specs.List.{AllByRecursion, list_any}
 use Rattle.std.specs.Option.{is_some, option_map}
 use Rattle.std.proofs.lemmas.Bool.{eqb-true}
-use Rattle.drm_lists.specs.Numbers.{is_among}
-use Rattle.drm_lists.specs.Orders.{InOrder}
-use Rattle.drm_lists.proofs.Lists.{all_append, all_both, all_filter, all_weaker}
-use Rattle.drm_lists.proofs.Numbers.{flipped}
-use Rattle.drm_lists.proofs.Orders.{in_order_append, in_order_filter}
-use Rattle.drm_lists.proofs.Rising.{all_found_apart, found}
+use Rattle.drm_index_array.specs.Numbers.{is_among}
+use Rattle.drm_index_array.specs.Orders.{InOrder}
+use Rattle.drm_index_array.proofs.Lists.{all_append, all_both, all_filter, all_weaker}
+use Rattle.drm_index_array.proofs.Numbers.{flipped}
+use Rattle.drm_index_array.proofs.Orders.{in_order_append, in_order_filter}
+use Rattle.drm_index_array.proofs.Rising.{all_found_apart, found}
 use Rattle.drm_table.specs.declared.answers.Answer.TheVariants.{Number}
 use Rattle.drm_table.specs.declared.calls.Call.TheVariants.{AddFb}
 use Rattle.drm_table.specs.declared.events.Event.TheVariants.{Ask}

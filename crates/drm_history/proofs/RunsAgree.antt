@@ -3,7 +3,7 @@ use Rattle.std.proofs.Common.{◌≡◌, ℕ, ◌==◌, Bool, true, false, cond,
 use Rattle.std.specs.List.{AllByRecursion, list_any}
 use Rattle.std.specs.Option.{option_map}
 use Rattle.std.proofs.lemmas.Bool.{and_parts, eqb-true, or_left}
-use Rattle.drm_lists.proofs.Lists.{all_both, all_weaker, some_passing}
+use Rattle.drm_index_array.proofs.Lists.{all_both, all_weaker, some_passing}
 use Rattle.drm_table.specs.declared.answers.Answer.TheVariants.{Opened, Closed, Denied}
 use Rattle.drm_table.specs.declared.calls.Call.{Call}
 use Rattle.drm_table.specs.declared.calls.Call.TheVariants.{Version, SetMaster, GemClose, GemFlink, GemOpen, PrimeHandleToFd, PrimeFdToHandle, BufCreate, TokenClose, GetFb, AddFb, RmFb, CreateDumb, DestroyDumb}
@@ -40,7 +40,7 @@ use Rattle.drm_history.proofs.NumberSteps.{WasAdded, adding}
 use Rattle.drm_history.proofs.Facts.{Facts, FactsOf, Agrees, IsSilent, silent, taking, numbers_fewer, swept_facts}
 use Rattle.drm_history.proofs.CallSteps.{Refines, asked_step, buf_create, create_dumb, gem_close, destroy_dumb, gem_flink, gem_open, prime_export, prime_import, token_close, add_fb, rm_fb, get_fb}
 use Rattle.std.proofs.lemmas.Option.{same_Some}
-use Rattle.drm_lists.proofs.Numbers.{same_either}
+use Rattle.drm_index_array.proofs.Numbers.{same_either}
 
 -- ---- a step that says nothing of handles
 

@@ -1,7 +1,7 @@
 -- The rows of a device, by its history (own).
 use Rattle.std.specs.Prelude.{◌≡◌, ℕ, ◌==◌, Bool, true, false, ◌&&◌, ◌↔◌, List}
 use Rattle.std.specs.List.{list_any, AllByRecursion}
-use Rattle.drm_lists.specs.Orders.{InOrder}
+use Rattle.drm_index_array.specs.Orders.{InOrder}
 use Rattle.drm_model.specs.Rows.{Rows, HandleRow, NameRow, TokenRow, FramebufferRow, is_handle}
 use Rattle.drm_model.specs.Run.{DeviceValue, rows_of}
 use Rattle.drm_table.specs.declared.calls.Call.TheVariants.{AddFb}

@@ -3,3 +3,12 @@ pub mod Steps
 pub mod Holds
 pub mod Chains
 pub mod Laws
+pub mod Effects
+pub mod MasterState
+pub mod Mastership
+pub mod Shown
+pub mod Lessees
+pub mod Magics
+pub mod Closings
+pub mod SeesNothing
+pub mod Authority

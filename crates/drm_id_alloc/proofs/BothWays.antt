@@ -3,8 +3,8 @@ use Rattle.std.proofs.Common.{◌≡◌, ℕ, ◌<◌, ◌==◌, eqb, Bool, true
 use Rattle.std.specs.FinMap as fin
 use Rattle.std.proofs.lemmas.Bool.{eqb-true, eqb-false, ne_eqb}
 use Rattle.std.proofs.lemmas.Option.{none-some, same_Some}
-use Rattle.drm_lists.proofs.Lists.{filter_all, filter-same, all_weaker}
-use Rattle.drm_lists.proofs.FoundInLists.{none_found as found_none}
+use Rattle.drm_index_array.proofs.Lists.{filter_all, filter-same, all_weaker}
+use Rattle.drm_index_array.proofs.FoundInLists.{none_found as found_none}
 use Rattle.drm_index_array.proofs.MarkedLemmas.{get-insert, get-remove}
 use Rattle.drm_id_alloc.specs.BothWays.{AreBothWays}
 use Rattle.drm_id_alloc.proofs.NumberTable.{rows_removed, rows_all, none_found, first_found}

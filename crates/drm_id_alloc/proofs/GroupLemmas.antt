@@ -6,7 +6,7 @@ use Rattle.std.proofs.lemmas.Bool.{false≢true, eqb-true, ne_eqb}
 use Rattle.drm_index_array.proofs.MarkedLemmas.{get-insert, get-remove}
 use Rattle.drm_id_alloc.specs.Groups.{Groups, AreSame, IsAdded, IsTaken, groups_in, AreGroupsOf}
 use Rattle.std.proofs.Math.Bool.{and-false}
-use Rattle.drm_lists.proofs.Numbers.{same_either}
+use Rattle.drm_index_array.proofs.Numbers.{same_either}
 
 -- "Or false" changes nothing.
 pub nothing_or : (b : Bool) → b ≡ (b || false)

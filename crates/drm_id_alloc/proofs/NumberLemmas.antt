@@ -16,7 +16,7 @@ use Rattle.drm_index_array.proofs.MarkedLemmas.{get-insert, get-remove}
 use Rattle.drm_id_alloc.specs.Groups.{GroupMap, has_number, has, numbers_of, IsNoted, IsForgotten}
 use Rattle.drm_id_alloc.proofs.GroupLemmas.{group_is, nothing_or, all_and}
 use Rattle.std.proofs.Math.Bool.{and-false, or-true, or-false}
-use Rattle.drm_lists.proofs.Numbers.{same_either}
+use Rattle.drm_index_array.proofs.Numbers.{same_either}
 
 abbrev Numbers : Type 0
 Numbers = Indexed (Unit {0})

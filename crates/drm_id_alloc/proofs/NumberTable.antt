@@ -8,8 +8,8 @@ use Rattle.std.specs.FinMap.Entries.{find, is_sorted}
 use Rattle.std.proofs.lemmas.Bool.{cases_lt, cases_eq, ne_eqb}
 use Rattle.std.proofs.lemmas.Bool.Decides.{nat_tests}
 use Rattle.std.proofs.lemmas.Option.{none-some, same_Some}
-use Rattle.drm_lists.specs.Numbers.{is_among}
-use Rattle.drm_lists.proofs.FoundInLists.{find_none}
+use Rattle.drm_index_array.specs.Numbers.{is_among}
+use Rattle.drm_index_array.proofs.FoundInLists.{find_none}
 use Rattle.drm_index_array.specs.Least.{least}
 use Rattle.drm_index_array.specs.Rows.{placed, InOrder}
 use Rattle.drm_index_array.proofs.Least.{least-same}

@@ -12,7 +12,7 @@
 /// let Ok(()) = groups.note(3, 500) else { return };
 /// assert!(rt; groups.note(3, 500) != Err(NoMemory));
 /// ```
-#[derive(Clone, Copy, PartialEq, Eq, Debug)]
+#[derive(Clone, Copy, PartialEq, Debug)]
 pub struct NoMemory;
 
 /// The reason nothing was added, with the value that was not added.
@@ -27,7 +27,7 @@ pub struct NoMemory;
 /// let Ok(_id) = table.add(7) else { return };
 /// assert!(rt; table.add(8) == Err(AddFault::Full(8)));
 /// ```
-#[derive(Debug, Drop, PartialEq, Eq)]
+#[derive(Debug, Drop, PartialEq)]
 pub enum AddFault<T> {
     /// No number of the range is free.
     Full(T),

@@ -1,3 +1,13 @@
+pub mod Lists
+pub mod FoundInLists
+pub mod Each
+pub mod Orders
+pub mod Numbers
+pub mod Pages
+pub mod Chains
+pub mod Rising
+pub mod Edits
+pub mod Placed
 pub mod Least
 pub mod MarkedLemmas
 pub mod KeysLemmas

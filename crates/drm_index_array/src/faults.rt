@@ -14,7 +14,7 @@ ghost use Rattle.std.specs.Prelude.{◌≡◌};
 /// let Ok(()) = array.insert(300, 7) else { return };
 /// assert!(rt; array.insert(300, 8) == Err(InsertFault::Taken(8)));
 /// ```
-#[derive(Debug, Drop, PartialEq, Eq)]
+#[derive(Debug, Drop, PartialEq)]
 pub enum InsertFault<T> {
     /// The index has an entry already.
     Taken(T),

@@ -12,7 +12,7 @@
 /// let Ok(()) = array.insert(5, 1) else { return };
 /// assert!(rt; array.set_mark(5, Mark::M1) && !array.marked(5, Mark::M2));
 /// ```
-#[derive(Debug, Clone, Copy, PartialEq, Eq)]
+#[derive(Debug, Clone, Copy, PartialEq)]
 pub enum Mark {
     /// The first mark.
     M0,

@@ -10,9 +10,9 @@ use Rattle.std.specs.FinMap.Entries.{find, put, where_key, is_sorted, below_all,
 use Rattle.std.proofs.lemmas.Bool.{false≢true, eqb-true}
 use Rattle.std.proofs.lemmas.Bool.Decides.{nat_tests}
 use Rattle.slab.specs.Slab.{Slab, get, Updates}
-use Rattle.drm_lists.specs.Orders.{InOrder}
+use Rattle.drm_index_array.specs.Orders.{InOrder}
 use Rattle.std.proofs.lemmas.List.{map-append}
-use Rattle.drm_lists.proofs.Lists.{all_of_map, all_mapped, map-map}
+use Rattle.drm_index_array.proofs.Lists.{all_of_map, all_mapped, map-map}
 use Rattle.drm_index_array.specs.Rows.{placed}
 use Rattle.drm_index_array.proofs.RowsByKey.{left, right, all_rows, rows_put, row_at, rows_length, entries_removed}
 use Rattle.drm_keys.specs.Keys.{rows_in, IsKeyed}

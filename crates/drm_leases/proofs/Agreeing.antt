@@ -7,14 +7,14 @@ use Rattle.std.specs.Option.{is_some, option_map, option_map_or, option_and_then
 use Rattle.std.proofs.lemmas.Bool.{eqb-true, ne_eqb, false≢true, or_left, or_right}
 use Rattle.std.proofs.lemmas.Option.{none-some, same_Some}
 use Rattle.drm_index_array.specs.Rows.{placed}
-use Rattle.drm_lists.specs.Orders.{InOrder}
-use Rattle.drm_lists.specs.Chains.{is_under}
-use Rattle.drm_lists.proofs.Chains.{itself}
-use Rattle.drm_lists.proofs.Lists.{list_any_left, all_each, all_weaker, list_any-map, some_passing}
-use Rattle.drm_lists.proofs.Each.{none_passes}
-use Rattle.drm_lists.proofs.FoundInLists.{find-map, none_found}
-use Rattle.drm_lists.proofs.Placed.{any_placed, all_placed, find_placed, find_other}
-use Rattle.drm_lists.proofs.Rising.{found, find_where, any_found, any_left, all_found}
+use Rattle.drm_index_array.specs.Orders.{InOrder}
+use Rattle.drm_index_array.specs.Chains.{is_under}
+use Rattle.drm_index_array.proofs.Chains.{itself}
+use Rattle.drm_index_array.proofs.Lists.{list_any_left, all_each, all_weaker, list_any-map, some_passing}
+use Rattle.drm_index_array.proofs.Each.{none_passes}
+use Rattle.drm_index_array.proofs.FoundInLists.{find-map, none_found}
+use Rattle.drm_index_array.proofs.Placed.{any_placed, all_placed, find_placed, find_other}
+use Rattle.drm_index_array.proofs.Rising.{found, find_where, any_found, any_left, all_found}
 use Rattle.drm_masters.specs.declared.rows.Master.{Master}
 use Rattle.drm_masters.specs.declared.rows.Member.{Member}
 use Rattle.drm_masters.specs.Masters.{MasterSet, is_client, member_before, master_before, is_step_number, is_key, is_option, IsKeyOf, member_of, master_at, lessor_of, is_held, is_living}

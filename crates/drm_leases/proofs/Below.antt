@@ -7,14 +7,14 @@ use Rattle.std.specs.List.{list_any, AllByRecursion}
 use Rattle.std.specs.Option.{option_and_then}
 use Rattle.std.proofs.lemmas.Bool.{eqb-true, false≢true, or_left, or_right, and_parts}
 use Rattle.std.proofs.lemmas.Option.{slice_get_within}
-use Rattle.drm_lists.specs.Chains.{chain_within, is_under}
-use Rattle.drm_lists.specs.Numbers.{is_among}
-use Rattle.drm_lists.specs.Orders.{InOrder}
-use Rattle.drm_lists.proofs.Chains.{IsFalling, itself, child, above_too}
-use Rattle.drm_lists.proofs.Lists.{all_both, all_filter, all_mapped, all_each, filter_true, filter-both, filter-same, list_any-map}
-use Rattle.drm_lists.proofs.FoundInLists.{all_at}
-use Rattle.drm_lists.proofs.Orders.{in_order_filter, in_order_map}
-use Rattle.drm_lists.proofs.Rising.{found, any_found, all_found}
+use Rattle.drm_index_array.specs.Chains.{chain_within, is_under}
+use Rattle.drm_index_array.specs.Numbers.{is_among}
+use Rattle.drm_index_array.specs.Orders.{InOrder}
+use Rattle.drm_index_array.proofs.Chains.{IsFalling, itself, child, above_too}
+use Rattle.drm_index_array.proofs.Lists.{all_both, all_filter, all_mapped, all_each, filter_true, filter-both, filter-same, list_any-map}
+use Rattle.drm_index_array.proofs.FoundInLists.{all_at}
+use Rattle.drm_index_array.proofs.Orders.{in_order_filter, in_order_map}
+use Rattle.drm_index_array.proofs.Rising.{found, any_found, all_found}
 use Rattle.drm_masters.specs.declared.rows.Master.{Master}
 use Rattle.drm_masters.specs.Masters.{MasterSet, AreMasters, HasOlderLessor, is_step_number, is_option, master_at, lessor_of, lessees_of, is_below}
 use Rattle.drm_masters.proofs.Looked.{any_pushed}

@@ -3,7 +3,7 @@ use Rattle.std.proofs.Common.{◌≡◌, ℕ, ◌==◌, eqb, Bool, true, false, 
 use Rattle.std.specs.FinMap as fin
 use Rattle.std.proofs.lemmas.Bool.{eqb-true, eqb-false, ne_eqb}
 use Rattle.std.proofs.lemmas.Option.{none-some, same_Some}
-use Rattle.drm_lists.proofs.Lists.{map-map}
+use Rattle.drm_index_array.proofs.Lists.{map-map}
 use Rattle.drm_index_array.proofs.MarkedLemmas.{get-insert, get-remove}
 use Rattle.drm_id_alloc.proofs.NumberTable.{none_found, first_found, find_number}
 use Rattle.drm_leases.specs.declared.rows.LeaseRecord.{LeaseRecord}

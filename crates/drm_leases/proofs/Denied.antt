@@ -4,7 +4,7 @@ use Rattle.std.specs.Prelude.{if◌then◌else◌, nat_le}
 use Rattle.std.specs.List.{list_any, list_all, AllByRecursion}
 use Rattle.std.proofs.lemmas.Bool.{or_right, eqb-true, and_parts, not-true}
 use Rattle.std.proofs.lemmas.Bool.Decides.{nat_tests}
-use Rattle.drm_lists.specs.Numbers.{is_among}
+use Rattle.drm_index_array.specs.Numbers.{is_among}
 use Rattle.std.specs.Option.{is_some}
 use Rattle.drm_table.specs.declared.rules.Rule.{Rule}
 use Rattle.drm_table.specs.declared.rules.Rule.TheVariants.{SubLease, NoModeObject, NotLeasable, Repeated, LeaseShape, LeasedOut, Full}
@@ -13,8 +13,8 @@ use Rattle.drm_modes.specs.Modes.{ModeSet}
 use Rattle.drm_modes.specs.Numbers.{numbers_from}
 use Rattle.drm_modes.specs.Topology.{Topology, is_crtc, is_plane, is_connector, object_count}
 use Rattle.drm_modes.proofs.Ids.{is_among-numbers_from}
-use Rattle.drm_lists.proofs.Numbers.{among-left}
-use Rattle.drm_lists.proofs.Rising.{found}
+use Rattle.drm_index_array.proofs.Numbers.{among-left}
+use Rattle.drm_index_array.proofs.Rising.{found}
 use Rattle.drm_masters.specs.declared.rows.Member.{Member}
 use Rattle.drm_masters.specs.Masters.{MasterSet, AreMasters, is_client, member_of, master_at, free_lessee}
 use Rattle.drm_leases.specs.Leases.{LeaseSet, is_leased_out, next_token}

@@ -11,10 +11,10 @@ use Rattle.std.proofs.lemmas.Bool.{eqb-true, false≢true}
 use Rattle.std.proofs.lemmas.Bool.Decides.{nat_tests}
 use Rattle.std.proofs.lemmas.List.Folds.{list_any-append}
 use Rattle.drm_index_array.specs.Rows.{placed}
-use Rattle.drm_lists.specs.Orders.{InOrder}
-use Rattle.drm_lists.specs.Numbers.{is_among}
-use Rattle.drm_lists.proofs.Each.{each_fails}
-use Rattle.drm_lists.proofs.Lists.{list_any-map, all_of_map}
+use Rattle.drm_index_array.specs.Orders.{InOrder}
+use Rattle.drm_index_array.specs.Numbers.{is_among}
+use Rattle.drm_index_array.proofs.Each.{each_fails}
+use Rattle.drm_index_array.proofs.Lists.{list_any-map, all_of_map}
 use Rattle.drm_index_array.proofs.Entries.{same_test, before_test, less_of}
 use Rattle.drm_index_array.proofs.RowsByKey.{left, right, rows_put, rows_where, find_rows, row_at, rows_length, entries_removed}
 use Rattle.drm_leases.specs.declared.rows.Lease.{Lease}

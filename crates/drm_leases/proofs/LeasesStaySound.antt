@@ -10,12 +10,12 @@ use Rattle.drm_index_array.specs.Least.{least}
 use Rattle.drm_index_array.specs.Rows.{placed}
 use Rattle.drm_index_array.proofs.Least.{least_some}
 use Rattle.drm_id_alloc.specs.Table.{or_else}
-use Rattle.drm_lists.specs.Orders.{InOrder}
-use Rattle.drm_lists.proofs.Lists.{all_weaker, all_both, all_each, all_append, all_filter, all_mapped, filter_true, filter-shorter, length-filter_append}
-use Rattle.drm_lists.proofs.Numbers.{flipped}
-use Rattle.drm_lists.proofs.Each.{any_filter}
-use Rattle.drm_lists.proofs.Placed.{all_placed, any_placed, placed_back, in_order_placed, rise_placed}
-use Rattle.drm_lists.proofs.Orders.{same_parts, in_order_filter, in_order_map, in_order_weaker}
+use Rattle.drm_index_array.specs.Orders.{InOrder}
+use Rattle.drm_index_array.proofs.Lists.{all_weaker, all_both, all_each, all_append, all_filter, all_mapped, filter_true, filter-shorter, length-filter_append}
+use Rattle.drm_index_array.proofs.Numbers.{flipped}
+use Rattle.drm_index_array.proofs.Each.{any_filter}
+use Rattle.drm_index_array.proofs.Placed.{all_placed, any_placed, placed_back, in_order_placed, rise_placed}
+use Rattle.drm_index_array.proofs.Orders.{same_parts, in_order_filter, in_order_map, in_order_weaker}
 use Rattle.drm_leases.specs.declared.rows.Grant.{Grant}
 use Rattle.drm_leases.specs.declared.rows.Lease.{Lease}
 use Rattle.drm_leases.specs.Tokens.{LeaseToken, token_before}

@@ -5,11 +5,11 @@ use Rattle.std.specs.Prelude.{unwrap_or, if◌then◌else◌}
 use Rattle.std.specs.FinMap as fin
 use Rattle.std.specs.List.{AllByRecursion}
 use Rattle.std.proofs.lemmas.Bool.{eqb-true, false≢true, and_parts, or_parts}
-use Rattle.drm_lists.specs.Orders.{InOrder}
+use Rattle.drm_index_array.specs.Orders.{InOrder}
 use Rattle.drm_index_array.specs.Rows.{placed}
-use Rattle.drm_lists.proofs.Lists.{all_weaker}
-use Rattle.drm_lists.proofs.Orders.{in_order_filter}
-use Rattle.drm_lists.proofs.Placed.{any_placed, in_order_placed}
+use Rattle.drm_index_array.proofs.Lists.{all_weaker}
+use Rattle.drm_index_array.proofs.Orders.{in_order_filter}
+use Rattle.drm_index_array.proofs.Placed.{any_placed, in_order_placed}
 use Rattle.drm_leases.specs.declared.rows.Lease.{Lease}
 use Rattle.drm_index_array.proofs.MarkedLemmas.{get-insert, get-remove}
 use Rattle.drm_leases.specs.Masks.{has_object, lease_before, lends, is_lent, AreApart, mask_at}

@@ -2,8 +2,8 @@
 use Rattle.std.proofs.Common.{◌≡◌, ℕ, true, List, Option, None, Some, find, refl, ap, subst, ◌∙◌, eq-eqb}
 use Rattle.std.specs.Option.{is_some, option_map, option_map_or}
 use Rattle.std.proofs.lemmas.Option.{none-some, same_Some}
-use Rattle.drm_lists.proofs.FoundInLists.{is_some-find, is_some-map}
-use Rattle.drm_lists.proofs.Rising.{found, any_found}
+use Rattle.drm_index_array.proofs.FoundInLists.{is_some-find, is_some-map}
+use Rattle.drm_index_array.proofs.Rising.{found, any_found}
 use Rattle.drm_masters.specs.declared.rows.Master.{Master}
 use Rattle.drm_masters.specs.Masters.{is_key, is_there, is_step_number, master_at, step_number_at, IsKeyOf}
 use Rattle.drm_leases.specs.Tokens.{LeaseToken}

@@ -2,11 +2,11 @@
 use Rattle.std.proofs.Common.{◌≡◌, ℕ, ◌<◌, ◌==◌, nat_lt, true, false, not, List, ◌++◌, map, Some, ap, ◌∙◌, append-nil}
 use Rattle.std.specs.List.{AllByRecursion}
 use Rattle.std.proofs.lemmas.Bool.{lt-ltb}
-use Rattle.drm_lists.proofs.Each.{filter_none}
-use Rattle.drm_lists.proofs.Lists.{all_weaker, filter_all}
-use Rattle.drm_lists.specs.Orders.{InOrder}
-use Rattle.drm_lists.proofs.Numbers.{less-differ}
-use Rattle.drm_lists.proofs.Orders.{in_order_weaker}
+use Rattle.drm_index_array.proofs.Each.{filter_none}
+use Rattle.drm_index_array.proofs.Lists.{all_weaker, filter_all}
+use Rattle.drm_index_array.specs.Orders.{InOrder}
+use Rattle.drm_index_array.proofs.Numbers.{less-differ}
+use Rattle.drm_index_array.proofs.Orders.{in_order_weaker}
 use Rattle.drm_leases.specs.declared.rows.Grant.{Grant}
 use Rattle.drm_index_array.specs.Rows.{placed}
 use Rattle.drm_leases.specs.Tokens.{LeaseToken, token_before}

@@ -1,7 +1,7 @@
 -- The objects of a lease rise.
 use Rattle.std.proofs.Common.{ℕ, zero, suc, ◌+◌, ◌<◌, arith}
 use Rattle.std.specs.List.{AllByRecursion}
-use Rattle.drm_lists.specs.Orders.{InOrder}
+use Rattle.drm_index_array.specs.Orders.{InOrder}
 use Rattle.drm_modes.specs.Numbers.{numbers_from}
 
 from_on : (n first : ℕ) → n < first → (count : ℕ) → AllByRecursion (λ x. n < x) (numbers_from first count)

@@ -2,7 +2,7 @@
 use Rattle.std.proofs.Common.{◌≡◌, ℕ, ◌+◌, ◌==◌, not, List, Option, None, Some, option_map, unwrap_or, refl, sym, ap, ◌∙◌}
 use Rattle.std.specs.FinMap as fin
 use Rattle.std.specs.Ordering.{nat_cmp}
-use Rattle.drm_lists.proofs.Lists.{list_any-map}
+use Rattle.drm_index_array.proofs.Lists.{list_any-map}
 use Rattle.drm_index_array.specs.Least.{least}
 use Rattle.drm_index_array.proofs.Least.{least-same}
 use Rattle.drm_id_alloc.specs.Table.{Table, or_else, next_cyclic, is_free as is_free_in}

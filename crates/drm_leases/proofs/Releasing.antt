@@ -4,11 +4,11 @@ use Rattle.std.proofs.Math.Bool.{and-true, and-false, or-true}
 use Rattle.drm_masters.proofs.MasterChains.{same_bool}
 use Rattle.std.specs.Option.{is_some, option_map_or}
 use Rattle.std.proofs.lemmas.Bool.{eqb-true, false≢true, and_parts, and_from, not-true}
-use Rattle.drm_lists.specs.Chains.{is_under}
-use Rattle.drm_lists.proofs.Each.{any_filter}
-use Rattle.drm_lists.proofs.Chains.{itself}
-use Rattle.drm_lists.proofs.Lists.{all_each, all_weaker, filter_all, filter-both, filter-same, filter_true, none_filtered, some_passing}
-use Rattle.drm_lists.proofs.Rising.{found, each_is_there}
+use Rattle.drm_index_array.specs.Chains.{is_under}
+use Rattle.drm_index_array.proofs.Each.{any_filter}
+use Rattle.drm_index_array.proofs.Chains.{itself}
+use Rattle.drm_index_array.proofs.Lists.{all_each, all_weaker, filter_all, filter-both, filter-same, filter_true, none_filtered, some_passing}
+use Rattle.drm_index_array.proofs.Rising.{found, each_is_there}
 use Rattle.drm_masters.specs.declared.rows.Master.{Master}
 use Rattle.drm_masters.specs.Masters.{MasterSet, AreMasters, is_step_number, master_at, lessor_of, is_below, is_held, swept}
 use Rattle.drm_masters.specs.Calls.{released, with_kept}

@@ -2,8 +2,8 @@
 use Rattle.std.specs.Prelude.{◌≡◌, ℕ, ◌<◌, nat_lt, not, ◌&&◌, Bool, true, List, ◌++◌, None, Some, Result, Ok, Err, map, filter}
 use Rattle.std.specs.List.{AllByRecursion}
 use Rattle.drm_index_array.specs.Rows.{placed}
-use Rattle.drm_lists.specs.Chains.{is_under}
-use Rattle.drm_lists.specs.Numbers.{is_among}
+use Rattle.drm_index_array.specs.Chains.{is_under}
+use Rattle.drm_index_array.specs.Numbers.{is_among}
 use Rattle.drm_table.specs.Permit.{first_failing}
 use Rattle.drm_modes.specs.Numbers.{numbers_from}
 use Rattle.drm_modes.specs.Topology.{Topology, object_count}

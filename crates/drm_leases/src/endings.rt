@@ -2,7 +2,7 @@
 
 ghost use Rattle.std.specs.Prelude.{◌≡◌, ℕ, true, false, not, filter, IfSome, IfNone};
 ghost use Rattle.std.specs.Option.{is_some};
-ghost use Rattle.drm_lists.specs.Chains.{is_under};
+ghost use Rattle.drm_index_array.specs.Chains.{is_under};
 ghost use Rattle.drm_masters.specs.Masters as masters_sets;
 ghost use Rattle.drm_masters.specs.Calls.{released, with_kept};
 ghost use Rattle.drm_leases.specs.Leases as sets;

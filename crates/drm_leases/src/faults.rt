@@ -20,7 +20,7 @@ use drm_table::Rule;
 /// let shape = Leases::new(alloc, 8).create(&mut masters, &modes, 1, true, &[1], 2);
 /// assert!(rt; shape == Err(LeaseFault::Denied(Rule::LeaseShape)));
 /// ```
-#[derive(Clone, Copy, PartialEq, Eq, Debug)]
+#[derive(Clone, Copy, PartialEq, Debug)]
 pub enum LeaseFault {
     /// A rule denies it.
     Denied(Rule),

@@ -3,7 +3,7 @@
 ghost use Rattle.std.specs.Prelude.{◌≡◌, ℕ, ◌<◌, ◌==◌, [], not, length, filter, slice_get, OnOk, OnErr, true, false};
 ghost use Rattle.std.specs.List.{AllByRecursion};
 ghost use Rattle.drm_index_array.specs.Rows.{placed};
-ghost use Rattle.drm_lists.specs.Orders.{InOrder};
+ghost use Rattle.drm_index_array.specs.Orders.{InOrder};
 ghost use Rattle.drm_leases.specs.Leases as sets;
 ghost use Rattle.drm_leases.specs.Masks.{has_object, grants_in, lendings_in, is_lent, IsFull, lease, lease_before};
 

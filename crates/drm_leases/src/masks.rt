@@ -2,7 +2,7 @@
 
 ghost use Rattle.std.specs.Prelude.{◌≡◌, ◌≤◌, ◌==◌, ◌↔◌, ℕ, ◌&&◌, ◌||◌, not, IsTrue};
 ghost use Rattle.std.specs.List.{AllByRecursion};
-ghost use Rattle.drm_lists.specs.Numbers.{is_among};
+ghost use Rattle.drm_index_array.specs.Numbers.{is_among};
 ghost use Rattle.drm_leases.specs.Masks.{has_object, objects_in, IsFixed};
 
 use crate::lists::passing;

@@ -3,7 +3,7 @@
 use drm_masters::MasterKey;
 
 /// A fixed mode object in the lease of a lessee (drm-uapi, leases).
-#[derive(Clone, Copy, PartialEq, Eq, Debug)]
+#[derive(Clone, Copy, PartialEq, Debug)]
 pub struct Grant {
     /// The lessee, by the number of the step that created it.
     pub master: u32,
@@ -36,7 +36,7 @@ pub struct LeaseRecord {
 }
 
 /// A lease that was created.
-#[derive(Clone, Copy, PartialEq, Eq, Debug)]
+#[derive(Clone, Copy, PartialEq, Debug)]
 pub struct Leased {
     /// The lessee.
     pub m: MasterKey,

@@ -2,7 +2,7 @@
 
 ghost use Rattle.std.specs.Prelude.{◌≡◌, ◌==◌, ◌+◌, ◌≤◌, drop, filter, length};
 ghost use Rattle.std.specs.List.{list_any, list_all};
-ghost use Rattle.drm_lists.specs.Numbers as numbers;
+ghost use Rattle.drm_index_array.specs.Numbers as numbers;
 ghost use Rattle.drm_modes.specs.Topology as topology;
 ghost use Rattle.drm_leases.specs.Leases as sets;
 ghost use Rattle.drm_leases.specs.Masks.{grants_in};

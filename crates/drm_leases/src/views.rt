@@ -15,7 +15,7 @@ use drm_modes::{Kind, Modes};
 ///
 /// assert!(rt; Controlled::Lease(0b101).has(3) && !Controlled::Lease(0b101).has(2));
 /// ```
-#[derive(Clone, Copy, PartialEq, Eq, Debug)]
+#[derive(Clone, Copy, PartialEq, Debug)]
 pub enum Controlled {
     /// All of them: the master has no lessor.
     All,
@@ -49,7 +49,7 @@ impl Controlled {
 /// let view = View { controlled: Controlled::Lease(0b1), universal: true };
 /// assert!(rt; view.sees(&modes, 1) && !view.sees(&modes, 2));
 /// ```
-#[derive(Clone, Copy, PartialEq, Eq, Debug)]
+#[derive(Clone, Copy, PartialEq, Debug)]
 pub struct View {
     /// The mode objects that the client's master controls.
     pub controlled: Controlled,

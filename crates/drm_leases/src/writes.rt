@@ -1,7 +1,7 @@
 //! The mode objects of a lease.
 
 ghost use Rattle.std.specs.Prelude.{◌≡◌, ◌++◌};
-ghost use Rattle.drm_lists.specs.Numbers.{is_among};
+ghost use Rattle.drm_index_array.specs.Numbers.{is_among};
 ghost use Rattle.drm_leases.specs.Calls as calls;
 ghost use Rattle.drm_leases.specs.Masks.{objects_in};
 

@@ -2,7 +2,7 @@
 use Rattle.std.specs.Prelude.{◌≡◌, ℕ, List, [], map, ⊤}
 use Rattle.atomic_table.specs.Seated.{TableId}
 use Rattle.drm_turns.specs.Participants.{Same, ParticipantView, Unchanged}
-use Rattle.drm_streams.specs.Streams.{SourceTrace, SinkTrace, no_calls}
+use Rattle.drm_frames.specs.Streams.{SourceTrace, SinkTrace, no_calls}
 use Rattle.drm_sessions.specs.declared.class.Class.{Class}
 use Rattle.drm_sessions.specs.declared.end.Session.{Session}
 use Rattle.drm_sessions.specs.declared.through.Served.{Served}

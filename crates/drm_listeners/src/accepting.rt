@@ -4,8 +4,7 @@ ghost use Rattle.std.specs.Prelude.{◌≡◌, ◌+◌, ◌^◌, ◌≤◌, ◌<
 ghost use Rattle.arrayvec.specs.ArrayVec.{array_vec_len};
 ghost use Rattle.drm_turns.specs.Participants.{Same, Unchanged};
 ghost use Rattle.drm_listeners.specs.Connections.{IsFaultOf, IsFresh};
-ghost use Rattle.drm_listeners.specs.Accepting.{AreCounted, ArePromised, ClosesAs, HasRoom, HasServedFor, HasThreads, IsBelow, IsPlain, IsRoomFor, KeepsOne, Serves, all_of};
-ghost use Rattle.drm_listeners.specs.declared.accepting.Awaited.TheVariants.{All};
+ghost use Rattle.drm_listeners.specs.Accepting.{AreCounted, ArePromised, ClosesAs, HasRoom, HasServedFor, HasThreads, IsBelow, IsPlain, IsPromised, IsRoomFor, KeepsOne, Serves, all_of};
 
 use crate::connection::{Connection, ConnectionThread, start_connection};
 use crate::listener::{Arrival, Listener, Outcomes, Terms, Until, Visitors};
@@ -40,25 +39,6 @@ struct Pool {
     sessions: Vec<Session>,
 }
 
-/// The connections whose threads are waited for.
-#[derive(Clone, Copy)]
-enum Awaited {
-    /// Those whose sessions have ended.
-    Ended,
-    /// All.
-    All,
-}
-
-// Returns whether the thread of the connection at this place is waited for.
-fn is_awaited<R: Wait, D: Serving>(rt: &R, server: &D, awaited: Awaited, place: usize) -> bool
-    ensures { awaited ≡ All → result ≡ true }
-{
-    match awaited {
-        Awaited::All => true,
-        Awaited::Ended => server.open().free_left(rt, place),
-    }
-}
-
 // Keeps a session that has ended, or drops it.
 fn keep(until: Until, sessions: &mut Vec<Session>, session: Session)
     requires { HasRoom until 1 sessions.old }
@@ -71,49 +51,40 @@ fn keep(until: Until, sessions: &mut Vec<Session>, session: Session)
     }
 }
 
-// Waits for the thread at this index, and takes in its participant.
+// Waits for the thread of a connection, takes in its participant, and keeps its session or drops it.
 fn join_worker<R: Wait + Threads, D: Serving>(
     rt: &R,
     server: &D,
     own: &mut Seat,
     terms: Terms,
-    index: usize,
-    pool: &mut Pool,
+    worker: Worker,
+    sessions: &mut Vec<Session>,
 )
     requires own { own.old.table ≡ D.table server.now }
-    requires index { index < array_vec_len pool.old.workers }
-    requires served { HasServedFor terms pool.old.outcomes pool.old.sessions.items own.old }
-    requires promised { ArePromised (λ worker. worker.thread.promise) terms.class own.old pool.old.workers.items }
-    requires outstanding { array_vec_len pool.old.workers ≤ own.old.outstanding }
-    requires room { HasRoom terms.until (array_vec_len pool.old.workers) pool.old.sessions }
+    requires promised { IsPromised terms.class own.old worker.thread.promise }
+    requires outstanding { 1 ≤ own.old.outstanding }
+    requires room { HasRoom terms.until 1 sessions.old }
     ensures same { Same own.old own.new }
     ensures parent { own.new.parent ≡ own.old.parent }
-    ensures served { HasServedFor terms pool.new.outcomes pool.new.sessions.items own.new }
-    ensures promised { ArePromised (λ worker. worker.thread.promise) terms.class own.new pool.new.workers.items }
-    ensures less { array_vec_len pool.new.workers + 1 ≡ array_vec_len pool.old.workers }
+    ensures served { (outcomes : Outcomes) → HasServedFor terms outcomes sessions.old.items own.old → HasServedFor terms outcomes sessions.new.items own.new }
     ensures outstanding { own.new.outstanding + 1 ≡ own.old.outstanding }
     ensures merged { length own.new.merged ≡ length own.old.merged + 1 }
-    ensures room { HasRoom terms.until (array_vec_len pool.new.workers) pool.new.sessions }
-    ensures outcomes { pool.new.outcomes ≡ pool.old.outcomes }
+    ensures room { (more : ℕ) → HasRoom terms.until (more + 1) sessions.old → HasRoom terms.until more sessions.new }
 {
-    let Some(worker) = pool.workers.remove(index) else {
-        unreachable!()
-    };
     let Served {
         session,
         participant,
     } = worker.thread.join(rt);
     server.device().join(own, participant);
-    keep(terms.until, &mut pool.sessions, session);
+    keep(terms.until, sessions, session);
 }
 
-// Waits for threads, and takes in their participants, in the order of their connections.
-fn join_workers<R: Wait + Threads, D: Serving>(
+// Waits for the threads of sessions that have ended, in the order of their connections.
+fn join_ended<R: Wait + Threads, D: Serving>(
     rt: &R,
     server: &D,
     own: &mut Seat,
     terms: Terms,
-    awaited: Awaited,
     pool: &mut Pool,
 )
     requires own { own.old.table ≡ D.table server.now }
@@ -129,19 +100,55 @@ fn join_workers<R: Wait + Threads, D: Serving>(
     ensures merged { length own.new.merged + array_vec_len pool.new.workers ≡ length own.old.merged + array_vec_len pool.old.workers }
     ensures room { HasRoom terms.until (array_vec_len pool.new.workers) pool.new.sessions }
     ensures outcomes { pool.new.outcomes ≡ pool.old.outcomes }
-    ensures none { awaited ≡ All → array_vec_len pool.new.workers ≡ 0 }
 {
     let mut index = 0;
     'workers: while index < pool.workers.len() {
         let Some(worker) = &pool.workers[index] else {
             unreachable!()
         };
-        if is_awaited(rt, server, awaited, worker.place) {
-            join_worker(rt, server, own, terms, index, pool);
+        if server.open().free_left(rt, worker.place) {
+            let Some(worker) = pool.workers.remove(index) else {
+                unreachable!()
+            };
+            join_worker(rt, server, own, terms, worker, &mut pool.sessions);
         } else {
             index += 1;
         }
     }
+}
+
+// Waits for all threads, in the order of their connections. Returns the sessions that are kept.
+fn join_all<R: Wait + Threads, D: Serving>(
+    rt: &R,
+    server: &D,
+    own: &mut Seat,
+    terms: Terms,
+    pool: Pool,
+) -> Vec<Session>
+    requires own { own.old.table ≡ D.table server.now }
+    requires served { HasServedFor terms pool.outcomes pool.sessions.items own.old }
+    requires promised { ArePromised (λ worker. worker.thread.promise) terms.class own.old pool.workers.items }
+    requires outstanding { array_vec_len pool.workers ≤ own.old.outstanding }
+    requires room { HasRoom terms.until (array_vec_len pool.workers) pool.sessions }
+    ensures same { Same own.old own.new }
+    ensures parent { own.new.parent ≡ own.old.parent }
+    ensures served { HasServedFor terms pool.outcomes result.items own.new }
+    ensures outstanding { own.new.outstanding + array_vec_len pool.workers ≡ own.old.outstanding }
+    ensures merged { length own.new.merged ≡ length own.old.merged + array_vec_len pool.workers }
+{
+    let Pool {
+        workers,
+        outcomes: _outcomes,
+        sessions,
+    } = pool;
+    let mut sessions = sessions;
+    for started in workers {
+        let Some(worker) = started else {
+            unreachable!()
+        };
+        join_worker(rt, server, own, terms, worker, &mut sessions);
+    }
+    sessions
 }
 
 // Logs once that no thread could be started for a connection. If a listener that counts gets none, that is its fault.
@@ -232,7 +239,7 @@ fn make_room<R: Wait + Threads, D: Serving>(
         if pool.workers.len() == MOST_AT_ONCE {
             server.open().wait_for_leaving(rt);
         }
-        join_workers(rt, server, own, terms, Awaited::Ended, pool);
+        join_ended(rt, server, own, terms, pool);
     }
 }
 
@@ -388,9 +395,7 @@ fn serve_in_scope<'s, E: 's, R: Wait + Threads + Log + Sync, D: Serving + Sync>(
         listener,
         sessions,
     );
-    let mut pool = pool;
-    join_workers(rt, server, &mut participant, terms, Awaited::All, &mut pool);
-    let Pool { sessions, .. } = pool;
+    let sessions = join_all(rt, server, &mut participant, terms, pool);
     match closing {
         Ok(closing) => ServedListener {
             participant,

@@ -2,15 +2,15 @@
 
 ghost use Rattle.std.specs.Prelude.{◌≡◌, [], IfOk, IfErr};
 ghost use Rattle.drm_turns.specs.Participants.{Same, Unchanged};
-ghost use Rattle.drm_streams.specs.Streams.{no_calls};
+ghost use Rattle.drm_frames.specs.Streams.{no_calls};
 ghost use Rattle.drm_sessions.specs.Serving.{Costs};
 ghost use Rattle.drm_sessions.specs.Shared.{ServesShared};
 ghost use Rattle.drm_listeners.specs.Connections.{IsFresh, IsServedBy, IsSessionBy, connection_turns};
 
 use crate::server::Serving;
 use drm_connections::{Answers, Note, Reporting, Requests, Role};
+use drm_frames::{FromRead, Sink, Source, ToWrite};
 use drm_sessions::{Class, NoGate, Served, Witness, serve_witnessed};
-use drm_streams::{FromRead, Sink, Source, ToWrite};
 use drm_turns::{Seat, Sharing};
 use libc::net::{SHUT_RDWR, shutdown};
 use log::Log;

@@ -17,5 +17,5 @@ pub use class_listeners::{
 pub use listener::Visitors;
 pub use listeners::ByClass;
 pub use serve_faults::ServeFault;
-pub use serving::{Unserved, serve_all, serve_keeping, serve_until_told};
+pub use serving::{Unserved, serve_all, serve_keeping};
 pub use until_ended::{Attended, serve_until_ended};

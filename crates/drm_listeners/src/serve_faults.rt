@@ -5,7 +5,7 @@ use drm_traffic::class_word;
 use thiserror::Error;
 
 /// Why not all connections were served (own).
-#[derive(Clone, Copy, Debug, PartialEq, Eq, Error)]
+#[derive(Clone, Copy, Debug, PartialEq, Error)]
 pub enum ServeFault {
     /// A connection on the listener of this class could not be accepted.
     #[error("a connection on the {} socket could not be accepted", class_word(*.0))]

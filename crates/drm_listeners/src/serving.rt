@@ -183,7 +183,12 @@ pub struct Unserved {
     pub device: Device,
 }
 
-/// Serves connections as [`serve_until_told`] does, and returns the device on a fault too (own). It may wait.
+/// Serves connections as [`serve_all`] does, until they ended or `open` is asked to end, and returns the device on a fault
+/// too (own). It may wait.
+///
+/// The connections are in `open` for as long as they are served, which needs room for all of them. If `open` is asked
+/// to end, each connection ends as if its client had ended it. Those that did not arrive yet count as accepted: each is
+/// one whose client had ended before its first frame, so that it made no step. Such an end is not logged.
 ///
 /// # Errors
 ///
@@ -250,10 +255,6 @@ pub fn serve_keeping<R: Wait + Threads + Log + Sync>(
 /// memory for a connection, or its client has exited, the listener retries while a connection is open. After that it
 /// retries for five seconds before it reports a fault.
 ///
-/// The connections are in `open` for as long as they are served, which needs room for all of them. If `open` is asked
-/// to end, each connection ends as if its client had ended it. Those that did not arrive yet count as accepted: each is
-/// one whose client had ended before its first frame, so that it made no step. Such an end is not logged.
-///
 /// On a fault the function waits for the threads that were started, and then drops the device. [`serve_keeping`]
 /// returns it. `NoThread` means that a thread can't be started, for whatever cause. `NoMemory` is only returned before
 /// the first connection is accepted. Room for the sessions of all listeners is reserved before the first thread is
@@ -262,30 +263,6 @@ pub fn serve_keeping<R: Wait + Threads + Log + Sync>(
 /// A session that does not end with `Ended` is logged as it ends, with its listener and its client. If a connection
 /// can't be accepted, the system's reason is logged at the first try and at the last. A connection that waits after a
 /// listener's last one is logged too.
-pub fn serve_until_told<R: Wait + Threads + Log + Sync>(
-    rt: &R,
-    alloc: Global,
-    device: Device,
-    listeners: Listeners,
-    counts: Counts,
-    open: &OpenConnections,
-) -> Result<(Device, Vec<Session>), ServeFault>
-    ensures count { IfOk result (λ served. vec_len served.1 ≡ connections counts) }
-    ensures cards { IfOk result (λ served. All (IsSessionOf Card) (card_sessions counts served.1.items)) }
-    ensures renders { IfOk result (λ served. All (IsSessionOf Render) (render_sessions counts served.1.items)) }
-    ensures roots { IfOk result (λ served. All (IsSessionOf Root) (root_sessions counts served.1.items)) }
-    ensures history { IfOk result (λ served. IsHistoryOf counts device served.0 served.1.items) }
-    ensures journaled { IfOk result (λ served. length served.0.journal ≡ length device.journal + all_steps served.1.items) }
-    ensures turn { result ≢ Err TurnOut }
-{
-    match serve_keeping(rt, alloc, device, listeners, counts, open) {
-        Ok(served) => Ok(served),
-        Err(unserved) => Err(unserved.fault),
-    }
-}
-
-/// Serves this many connections of three listeners, as [`serve_until_told`] does if `open` is not asked to end (own).
-/// It may wait.
 pub fn serve_all<R: Wait + Threads + Log + Sync>(
     rt: &R,
     alloc: Global,
@@ -309,5 +286,8 @@ pub fn serve_all<R: Wait + Threads + Log + Sync>(
         render: ClassListener::new(render),
         root: ClassListener::new(root),
     };
-    serve_until_told(rt, alloc, device, listeners, counts, &open)
+    match serve_keeping(rt, alloc, device, listeners, counts, &open) {
+        Ok(served) => Ok(served),
+        Err(unserved) => Err(unserved.fault),
+    }
 }

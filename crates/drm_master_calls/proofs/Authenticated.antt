@@ -4,9 +4,9 @@ use Rattle.std.specs.Prelude.{if◌then◌else◌}
 use Rattle.std.specs.Option.{is_some, option_map}
 use Rattle.std.specs.List.{AllByRecursion}
 use Rattle.std.proofs.lemmas.Bool.{eqb-true}
-use Rattle.drm_lists.proofs.Lists.{all_weaker, all_each, all_mapped}
-use Rattle.drm_lists.proofs.FoundInLists.{find-map, find-same, is_some-map}
-use Rattle.drm_lists.proofs.Rising.{found}
+use Rattle.drm_index_array.proofs.Lists.{all_weaker, all_each, all_mapped}
+use Rattle.drm_index_array.proofs.FoundInLists.{find-map, find-same, is_some-map}
+use Rattle.drm_index_array.proofs.Rising.{found}
 use Rattle.drm_files.specs.declared.rows.FileClient.{FileClient}
 use Rattle.drm_files.specs.Files as files
 use Rattle.drm_files.specs.Files.{FileLists, is_open_client, authenticated, with_authenticated}

@@ -1,7 +1,7 @@
 -- The caller of a call that is admitted.
 use Rattle.std.proofs.Common.{◌≡◌, ℕ, ◌==◌, Bool, true, false, not, cond, ◌||◌, ◌&&◌, List, [], ◌∷◌, filter, find, Option, None, Some, refl, sym, ap, ◌∙◌}
 use Rattle.std.specs.Option.{is_some, is_none, option_map, option_map_or}
-use Rattle.drm_lists.proofs.FoundInLists.{is_some-find, is_some-map}
+use Rattle.drm_index_array.proofs.FoundInLists.{is_some-find, is_some-map}
 use Rattle.drm_files.specs.declared.rows.FileClient.{FileClient}
 use Rattle.drm_files.specs.declared.rows.FileFlags.{FileFlags}
 use Rattle.drm_files.specs.Files as files
@@ -16,9 +16,9 @@ use Rattle.drm_table.specs.declared.permits.Standing.{Standing}
 use Rattle.std.specs.List.{list_any}
 use Rattle.std.proofs.Math.Bool.{and-false}
 use Rattle.drm_index_array.specs.Least.{least}
-use Rattle.drm_lists.specs.Numbers.{is_among}
-use Rattle.drm_lists.proofs.Lists.{list_any-map, list_any_agree}
-use Rattle.drm_lists.proofs.Orders.{same-any}
+use Rattle.drm_index_array.specs.Numbers.{is_among}
+use Rattle.drm_index_array.proofs.Lists.{list_any-map, list_any_agree}
+use Rattle.drm_index_array.proofs.Orders.{same-any}
 use Rattle.drm_masters.specs.declared.rows.Magic.{Magic}
 use Rattle.drm_model.specs.Rows.{MagicRow}
 use Rattle.drm_state.specs.Parts.{magic_row_of, magics_of}

@@ -3,18 +3,18 @@ use Rattle.std.proofs.Common.{◌≡◌, ℕ, ◌<◌, ◌==◌, ◌&&◌, ◌||
 use Rattle.std.specs.Prelude.{if◌then◌else◌}
 use Rattle.std.specs.Option.{is_some, option_map}
 use Rattle.std.proofs.lemmas.Bool.{eqb-true}
-use Rattle.drm_lists.proofs.Lists.{all_weaker, all_each, all_mapped}
-use Rattle.drm_lists.proofs.Numbers.{flipped, less-differ}
-use Rattle.drm_lists.proofs.FoundInLists.{find-map, find-same, is_some-map}
+use Rattle.drm_index_array.proofs.Lists.{all_weaker, all_each, all_mapped}
+use Rattle.drm_index_array.proofs.Numbers.{flipped, less-differ}
+use Rattle.drm_index_array.proofs.FoundInLists.{find-map, find-same, is_some-map}
 use Rattle.drm_files.specs.declared.rows.FileClient.{FileClient}
 use Rattle.drm_files.specs.Files.{is_open_client}
 use Rattle.drm_masters.specs.declared.rows.Member.{Member}
 use Rattle.std.specs.List.{filter_map, cons_option, AllByRecursion}
-use Rattle.drm_lists.specs.Orders.{SameRows, InOrder}
-use Rattle.drm_lists.proofs.Orders.{last_first, same-cons, same-sym, same-trans}
+use Rattle.drm_index_array.specs.Orders.{SameRows, InOrder}
+use Rattle.drm_index_array.proofs.Orders.{last_first, same-cons, same-sym, same-trans}
 use Rattle.drm_masters.specs.Masters.{AreMasters, is_client, member_of}
 use Rattle.drm_masters.specs.Calls.{with_device, changed_member}
-use Rattle.drm_lists.proofs.Rising.{found}
+use Rattle.drm_index_array.proofs.Rising.{found}
 use Rattle.drm_leases.proofs.Agreeing.{agreed_changed}
 use Rattle.drm_model.specs.Rows.{Rows, MagicRow}
 use Rattle.drm_state.specs.Parts.{client_row_by, client_row_of, magic_row_of}

@@ -3,3 +3,8 @@ mod Authenticated
 mod Changed
 mod Spent
 mod Remade
+mod LesseeRows
+mod Revoked
+mod LeaseIds
+mod Asked
+mod OneLeaseMore

@@ -3,8 +3,8 @@ use Rattle.std.proofs.Common.{◌≡◌, ℕ, ◌<◌, ◌==◌, ◌&&◌, true,
 use Rattle.std.specs.Prelude.{if◌then◌else◌}
 use Rattle.std.specs.List.{filter_map, cons_option, AllByRecursion}
 use Rattle.std.proofs.lemmas.List.{map-append}
-use Rattle.drm_lists.specs.Orders.{SameRows}
-use Rattle.drm_lists.proofs.Orders.{same-filter}
+use Rattle.drm_index_array.specs.Orders.{SameRows}
+use Rattle.drm_index_array.proofs.Orders.{same-filter}
 use Rattle.drm_files.specs.Files.{with_authenticated}
 use Rattle.drm_masters.specs.declared.rows.Master.{Master}
 use Rattle.drm_masters.specs.declared.rows.Member.{Member}

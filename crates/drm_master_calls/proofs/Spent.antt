@@ -4,11 +4,11 @@ use Rattle.std.specs.Prelude.{if◌then◌else◌}
 use Rattle.std.specs.Option.{option_map, option_map_or, option_and_then}
 use Rattle.std.specs.List.{filter_map, cons_option, AllByRecursion}
 use Rattle.std.proofs.lemmas.Bool.{eqb-true, and_parts}
-use Rattle.drm_lists.specs.Orders.{SameRows, InOrder}
-use Rattle.drm_lists.proofs.Lists.{all_weaker, all_both, all_each}
-use Rattle.drm_lists.proofs.Numbers.{same_either}
-use Rattle.drm_lists.proofs.Orders.{same-map}
-use Rattle.drm_lists.proofs.Rising.{found, all_found}
+use Rattle.drm_index_array.specs.Orders.{SameRows, InOrder}
+use Rattle.drm_index_array.proofs.Lists.{all_weaker, all_both, all_each}
+use Rattle.drm_index_array.proofs.Numbers.{same_either}
+use Rattle.drm_index_array.proofs.Orders.{same-map}
+use Rattle.drm_index_array.proofs.Rising.{found, all_found}
 use Rattle.drm_masters.specs.declared.rows.Magic.{Magic}
 use Rattle.drm_masters.specs.declared.rows.Member.{Member}
 use Rattle.drm_masters.specs.Masters.{MasterSet, HaveOtherMagics, AreMasters, member_of, has_magic, has_open_magic}

@@ -8,7 +8,7 @@ use Rattle.std.specs.FinMap as fin
 use Rattle.std.specs.FinMap.Entries.{is_sorted, below_all}
 use Rattle.std.proofs.lemmas.Bool.{false≢true}
 use Rattle.std.proofs.lemmas.Bool.Decides.{nat_tests}
-use Rattle.drm_lists.specs.Orders.{InOrder}
+use Rattle.drm_index_array.specs.Orders.{InOrder}
 use Rattle.drm_index_array.specs.Rows.{placed}
 use Rattle.drm_index_array.proofs.RowsByKey.{left, right, rows_put, rows_where, rows_put_found, find_rows, row_at, rows_length, entries_removed}
 use Rattle.drm_masters.specs.declared.members.Membership.{Membership}

@@ -9,9 +9,9 @@ use Rattle.drm_index_array.specs.Least.{least}
 use Rattle.drm_index_array.proofs.Least.{least_some}
 use Rattle.drm_id_alloc.specs.Groups.{Groups, GroupMap, has, AreGroupsOf, IsAdded, IsTaken}
 use Rattle.drm_index_array.proofs.MarkedLemmas.{get-insert}
-use Rattle.drm_lists.proofs.Lists.{all_weaker}
-use Rattle.drm_lists.proofs.Numbers.{same_either}
-use Rattle.drm_lists.proofs.Rising.{any_found, all_found}
+use Rattle.drm_index_array.proofs.Lists.{all_weaker}
+use Rattle.drm_index_array.proofs.Numbers.{same_either}
+use Rattle.drm_index_array.proofs.Rising.{any_found, all_found}
 use Rattle.drm_masters.specs.declared.members.Membership.{Membership}
 use Rattle.drm_masters.specs.declared.rows.Member.{Member}
 use Rattle.drm_masters.specs.Masters.{is_client, member_of}

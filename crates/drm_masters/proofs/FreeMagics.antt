@@ -7,8 +7,8 @@ use Rattle.std.proofs.lemmas.Bool.{false≢true, eqb-true, not-false}
 use Rattle.std.proofs.lemmas.Bool.Decides.{nat_tests}
 use Rattle.drm_index_array.specs.Least.{least}
 use Rattle.drm_index_array.proofs.Least.{least_none}
-use Rattle.drm_lists.proofs.Lists.{filter-fewer, all_each}
-use Rattle.drm_lists.proofs.Rising.{any_left}
+use Rattle.drm_index_array.proofs.Lists.{filter-fewer, all_each}
+use Rattle.drm_index_array.proofs.Rising.{any_left}
 use Rattle.drm_masters.specs.declared.rows.Magic.{Magic}
 use Rattle.drm_masters.specs.declared.rows.Member.{Member}
 use Rattle.drm_masters.specs.Masters.{has_magic, is_client, HaveOtherMagics}

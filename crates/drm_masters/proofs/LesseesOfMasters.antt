@@ -13,11 +13,11 @@ use Rattle.drm_index_array.proofs.RowsByKey.{left, right}
 use Rattle.drm_index_array.proofs.Least.{least_some}
 use Rattle.drm_id_alloc.proofs.NumberLemmas.{among_numbers}
 use Rattle.drm_id_alloc.specs.Groups.{Groups, GroupMap, has, numbers_of}
-use Rattle.drm_lists.specs.Orders.{InOrder}
-use Rattle.drm_lists.specs.Numbers.{is_among}
-use Rattle.drm_lists.proofs.Lists.{all_weaker, all_filter, all_mapped}
-use Rattle.drm_lists.proofs.FoundInLists.{find_none}
-use Rattle.drm_lists.proofs.Rising.{any_found, all_found, find_where}
+use Rattle.drm_index_array.specs.Orders.{InOrder}
+use Rattle.drm_index_array.specs.Numbers.{is_among}
+use Rattle.drm_index_array.proofs.Lists.{all_weaker, all_filter, all_mapped}
+use Rattle.drm_index_array.proofs.FoundInLists.{find_none}
+use Rattle.drm_index_array.proofs.Rising.{any_found, all_found, find_where}
 use Rattle.drm_masters.specs.declared.rows.Master.{Master}
 use Rattle.drm_masters.specs.Masters.{is_step_number, master_before, is_option, master_at, lessor_of, lessees_of}
 use Rattle.drm_masters.specs.Tables.{AreLesseesOf, IsListed, IsUnlisted}

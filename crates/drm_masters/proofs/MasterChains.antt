@@ -3,14 +3,14 @@ use Rattle.std.proofs.Common.{◌≡◌, ℕ, ◌<◌, Bool, true, false, ◌&&�
 use Rattle.std.specs.List.{list_any, AllByRecursion}
 use Rattle.std.specs.Option.{is_some, option_and_then}
 use Rattle.std.proofs.lemmas.Bool.{eqb-true, or_left, or_right, and_parts, and_from}
-use Rattle.drm_lists.specs.Orders.{InOrder}
-use Rattle.drm_lists.specs.Chains.{is_under}
-use Rattle.drm_lists.proofs.Lists.{some_passing}
-use Rattle.drm_lists.proofs.Each.{each_fails}
-use Rattle.drm_lists.proofs.FoundInLists.{is_some-find}
-use Rattle.drm_lists.specs.Chains.{last_of}
-use Rattle.drm_lists.proofs.Chains.{IsFalling, itself, child, above_too, same_chain}
-use Rattle.drm_lists.proofs.Rising.{found, any_found, all_found}
+use Rattle.drm_index_array.specs.Orders.{InOrder}
+use Rattle.drm_index_array.specs.Chains.{is_under}
+use Rattle.drm_index_array.proofs.Lists.{some_passing}
+use Rattle.drm_index_array.proofs.Each.{each_fails}
+use Rattle.drm_index_array.proofs.FoundInLists.{is_some-find}
+use Rattle.drm_index_array.specs.Chains.{last_of}
+use Rattle.drm_index_array.proofs.Chains.{IsFalling, itself, child, above_too, same_chain}
+use Rattle.drm_index_array.proofs.Rising.{found, any_found, all_found}
 use Rattle.drm_masters.specs.declared.rows.Member.{Member}
 use Rattle.drm_masters.specs.declared.rows.Master.{Master}
 use Rattle.drm_masters.specs.Masters.{is_option, is_step_number, master_at, lessor_of, owner_of, is_held, is_living, HasOlderLessor}

@@ -7,14 +7,14 @@ use Rattle.std.proofs.Math.Bool.{and-false}
 use Rattle.std.proofs.lemmas.List.{length-map}
 use Rattle.std.proofs.lemmas.Bool.{eqb-true, or_left, or_right, and_parts, and_from}
 use Rattle.drm_index_array.specs.Rows.{placed}
-use Rattle.drm_lists.specs.Orders.{InOrder}
-use Rattle.drm_lists.proofs.Lists.{all_weaker, all_both, all_each, all_filter, all_mapped, filter-shorter, list_any-map, list_any_agree, some_passing}
-use Rattle.drm_lists.proofs.Each.{each_fails}
-use Rattle.drm_lists.proofs.FoundInLists.{is_some-find, none_found}
-use Rattle.drm_lists.proofs.Orders.{in_order_filter}
-use Rattle.drm_lists.proofs.Numbers.{flipped}
-use Rattle.drm_lists.proofs.Placed.{any_placed, length_placed, all_placed, in_order_placed, rise_placed}
-use Rattle.drm_lists.proofs.Rising.{found, any_found, any_more, any_left, all_found, all_found_apart, in_order_kept, in_order_mapped, in_order_both, each_is_there}
+use Rattle.drm_index_array.specs.Orders.{InOrder}
+use Rattle.drm_index_array.proofs.Lists.{all_weaker, all_both, all_each, all_filter, all_mapped, filter-shorter, list_any-map, list_any_agree, some_passing}
+use Rattle.drm_index_array.proofs.Each.{each_fails}
+use Rattle.drm_index_array.proofs.FoundInLists.{is_some-find, none_found}
+use Rattle.drm_index_array.proofs.Orders.{in_order_filter}
+use Rattle.drm_index_array.proofs.Numbers.{flipped}
+use Rattle.drm_index_array.proofs.Placed.{any_placed, length_placed, all_placed, in_order_placed, rise_placed}
+use Rattle.drm_index_array.proofs.Rising.{found, any_found, any_more, any_left, all_found, all_found_apart, in_order_kept, in_order_mapped, in_order_both, each_is_there}
 use Rattle.drm_masters.specs.declared.rows.Magic.{Magic}
 use Rattle.drm_masters.specs.declared.rows.Member.{Member}
 use Rattle.drm_masters.specs.declared.rows.Master.{Master}

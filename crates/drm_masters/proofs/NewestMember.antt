@@ -3,12 +3,12 @@ use Rattle.std.proofs.Common.{◌≡◌, ℕ, ◌<◌, true, false, List, [], �
 use Rattle.std.specs.Prelude.{IfSome}
 use Rattle.std.specs.List.{AllByRecursion}
 use Rattle.std.proofs.lemmas.Bool.{eqb-true, lt-ltb}
-use Rattle.drm_lists.proofs.Lists.{all_weaker}
-use Rattle.drm_lists.proofs.FoundInLists.{is_some-find, all_found}
-use Rattle.drm_lists.proofs.Each.{none_passes, some_found}
-use Rattle.drm_lists.proofs.Numbers.{less-differ}
-use Rattle.drm_lists.proofs.Placed.{placed_last}
-use Rattle.drm_lists.proofs.Rising.{found}
+use Rattle.drm_index_array.proofs.Lists.{all_weaker}
+use Rattle.drm_index_array.proofs.FoundInLists.{is_some-find, all_found}
+use Rattle.drm_index_array.proofs.Each.{none_passes, some_found}
+use Rattle.drm_index_array.proofs.Numbers.{less-differ}
+use Rattle.drm_index_array.proofs.Placed.{placed_last}
+use Rattle.drm_index_array.proofs.Rising.{found}
 use Rattle.drm_masters.specs.declared.rows.Master.{Master}
 use Rattle.drm_masters.specs.declared.rows.Member.{Member}
 use Rattle.drm_masters.specs.Masters.{MasterSet, AreMasters, is_client, is_step_number, member_of, master_at, member_before, master_before}

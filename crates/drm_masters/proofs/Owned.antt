@@ -8,14 +8,14 @@ use Rattle.std.proofs.lemmas.Bool.{eqb-true, ne_eqb, false≢true, and_parts, or
 use Rattle.drm_index_array.specs.Rows.{placed}
 use Rattle.drm_index_array.specs.Least.{least}
 use Rattle.drm_index_array.proofs.Least.{least-same}
-use Rattle.drm_lists.specs.Chains.{top_of}
-use Rattle.drm_lists.proofs.Chains.{top_some}
-use Rattle.drm_lists.proofs.Lists.{all_weaker, all_each}
-use Rattle.drm_lists.proofs.Each.{none_passes}
-use Rattle.drm_lists.proofs.FoundInLists.{is_some-false, is_some-find, find_none}
-use Rattle.drm_lists.proofs.Placed.{all_placed}
-use Rattle.drm_lists.proofs.Numbers.{flipped, same_either}
-use Rattle.drm_lists.proofs.Rising.{found, any_found, all_found, find_where}
+use Rattle.drm_index_array.specs.Chains.{top_of}
+use Rattle.drm_index_array.proofs.Chains.{top_some}
+use Rattle.drm_index_array.proofs.Lists.{all_weaker, all_each}
+use Rattle.drm_index_array.proofs.Each.{none_passes}
+use Rattle.drm_index_array.proofs.FoundInLists.{is_some-false, is_some-find, find_none}
+use Rattle.drm_index_array.proofs.Placed.{all_placed}
+use Rattle.drm_index_array.proofs.Numbers.{flipped, same_either}
+use Rattle.drm_index_array.proofs.Rising.{found, any_found, all_found, find_where}
 use Rattle.drm_masters.specs.declared.rows.Master.{Master}
 use Rattle.drm_masters.specs.declared.rows.Member.{Member}
 use Rattle.drm_masters.specs.Masters.{is_step_number, master_before, is_option, master_at, lessor_of, owner_of, is_held, is_used, HasOlderLessor, is_lessee_of}

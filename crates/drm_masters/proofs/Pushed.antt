@@ -4,16 +4,16 @@ use Rattle.std.specs.Prelude.{if◌then◌else◌}
 use Rattle.std.specs.List.{list_any, AllByRecursion}
 use Rattle.std.specs.Option.{is_some, option_map, option_and_then}
 use Rattle.drm_index_array.specs.Rows.{placed}
-use Rattle.drm_lists.specs.Orders.{InOrder}
+use Rattle.drm_index_array.specs.Orders.{InOrder}
 use Rattle.std.proofs.lemmas.Bool.{ne_eqb, false≢true, or_left, or_right, and_parts, and_from}
-use Rattle.drm_lists.specs.Chains.{is_under}
-use Rattle.drm_lists.proofs.Lists.{all_weaker, all_each, all_mapped, list_any-map}
-use Rattle.drm_lists.proofs.FoundInLists.{is_some-find, is_some-map, find-map, find-same}
-use Rattle.drm_lists.proofs.Numbers.{flipped}
-use Rattle.drm_lists.proofs.Placed.{any_placed, all_placed, find_placed, find_other, placed_back, rise_placed}
-use Rattle.drm_lists.proofs.Chains.{itself, same_chain}
-use Rattle.drm_lists.proofs.Rising.{found, any_more, all_found_apart, in_order_kept}
-use Rattle.drm_lists.specs.Numbers.{is_among}
+use Rattle.drm_index_array.specs.Chains.{is_under}
+use Rattle.drm_index_array.proofs.Lists.{all_weaker, all_each, all_mapped, list_any-map}
+use Rattle.drm_index_array.proofs.FoundInLists.{is_some-find, is_some-map, find-map, find-same}
+use Rattle.drm_index_array.proofs.Numbers.{flipped}
+use Rattle.drm_index_array.proofs.Placed.{any_placed, all_placed, find_placed, find_other, placed_back, rise_placed}
+use Rattle.drm_index_array.proofs.Chains.{itself, same_chain}
+use Rattle.drm_index_array.proofs.Rising.{found, any_more, all_found_apart, in_order_kept}
+use Rattle.drm_index_array.specs.Numbers.{is_among}
 use Rattle.drm_masters.specs.declared.rows.Member.{Member}
 use Rattle.drm_masters.specs.declared.rows.Master.{Master}
 use Rattle.drm_masters.specs.Masters.{is_step_number, master_before, is_key, IsKeyOf, master_at, lessor_of, owner_of, is_held, is_living, HasOlderLessor}

@@ -3,11 +3,11 @@ use Rattle.std.proofs.Common.{◌≡◌, ℕ, ◌<◌, ◌==◌, Bool, true, fal
 use Rattle.std.specs.Prelude.{if◌then◌else◌}
 use Rattle.std.specs.List.{list_any}
 use Rattle.std.proofs.lemmas.Bool.{and_parts, and_from, or_right}
-use Rattle.drm_lists.specs.Chains.{is_under}
-use Rattle.drm_lists.proofs.Chains.{itself}
-use Rattle.drm_lists.proofs.Lists.{map-map, filter-map, filter-both, filter-same, all_each, filter_all}
-use Rattle.drm_lists.proofs.Orders.{in_order_filter}
-use Rattle.drm_lists.proofs.Rising.{find_where}
+use Rattle.drm_index_array.specs.Chains.{is_under}
+use Rattle.drm_index_array.proofs.Chains.{itself}
+use Rattle.drm_index_array.proofs.Lists.{map-map, filter-map, filter-both, filter-same, all_each, filter_all}
+use Rattle.drm_index_array.proofs.Orders.{in_order_filter}
+use Rattle.drm_index_array.proofs.Rising.{find_where}
 use Rattle.drm_masters.specs.declared.rows.Member.{Member}
 use Rattle.drm_masters.specs.declared.rows.Master.{Master}
 use Rattle.drm_masters.specs.Masters.{MasterSet, AreMasters, is_step_number, master_at, lessor_of, is_held, is_living, swept}

@@ -3,11 +3,11 @@ use Rattle.std.proofs.Common.{◌≡◌, ℕ, ◌==◌, true, false, cond, List,
 use Rattle.std.specs.List.{list_any, AllByRecursion}
 use Rattle.std.specs.Option.{is_some, option_and_then}
 use Rattle.std.proofs.lemmas.Bool.{eqb-true, or_right}
-use Rattle.drm_lists.specs.Numbers.{is_among}
-use Rattle.drm_lists.specs.Chains.{is_under}
-use Rattle.drm_lists.proofs.Lists.{all_weaker, all_each, all_both, all_filter, filter_true}
-use Rattle.drm_lists.proofs.Chains.{itself, same_chain}
-use Rattle.drm_lists.proofs.Rising.{found, all_found, find_where}
+use Rattle.drm_index_array.specs.Numbers.{is_among}
+use Rattle.drm_index_array.specs.Chains.{is_under}
+use Rattle.drm_index_array.proofs.Lists.{all_weaker, all_each, all_both, all_filter, filter_true}
+use Rattle.drm_index_array.proofs.Chains.{itself, same_chain}
+use Rattle.drm_index_array.proofs.Rising.{found, all_found, find_where}
 use Rattle.drm_masters.specs.declared.rows.Member.{Member}
 use Rattle.drm_masters.specs.declared.rows.Master.{Master}
 use Rattle.drm_masters.specs.Masters.{is_step_number, master_at, lessor_of, is_held, is_living, HasOlderLessor}

@@ -4,10 +4,10 @@ use Rattle.std.specs.List.{list_any, AllByRecursion}
 use Rattle.std.specs.Option.{is_some, option_map_or}
 use Rattle.std.proofs.lemmas.List.{map-append}
 use Rattle.drm_index_array.specs.Rows.{placed}
-use Rattle.drm_lists.proofs.Each.{none_passes}
-use Rattle.drm_lists.proofs.Lists.{all_weaker, all_filter}
-use Rattle.drm_lists.proofs.FoundInLists.{none_found}
-use Rattle.drm_lists.proofs.Placed.{any_placed, find_placed}
+use Rattle.drm_index_array.proofs.Each.{none_passes}
+use Rattle.drm_index_array.proofs.Lists.{all_weaker, all_filter}
+use Rattle.drm_index_array.proofs.FoundInLists.{none_found}
+use Rattle.drm_index_array.proofs.Placed.{any_placed, find_placed}
 use Rattle.drm_masters.specs.declared.rows.Member.{Member}
 use Rattle.drm_masters.specs.declared.rows.Master.{Master}
 use Rattle.drm_masters.specs.Masters.{MasterSet, AreMasters, HasOlderLessor, is_option, is_key, is_there, is_step_number, step_number_at, master_at, master_before, is_used, is_living, swept}

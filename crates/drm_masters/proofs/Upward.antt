@@ -3,14 +3,14 @@ use Rattle.std.proofs.Common.{◌≡◌, ℕ, zero, suc, ◌+◌, ◌<◌, ◌�
 use Rattle.std.specs.List.{list_any, AllByRecursion}
 use Rattle.std.specs.Option.{is_some, option_and_then}
 use Rattle.std.proofs.lemmas.Bool.{eqb-true, false≢true, and_parts, and_right, or_parts, not-true}
-use Rattle.drm_lists.specs.Numbers.{is_among}
-use Rattle.drm_lists.specs.Chains.{is_under}
-use Rattle.drm_lists.proofs.Lists.{all_each, all_weaker, all_both, all_filter, filter_all, filter-same, filter-both, filter_true, some_passing}
-use Rattle.drm_lists.proofs.Each.{each_fails, none_passes}
-use Rattle.drm_lists.proofs.Numbers.{flipped}
-use Rattle.drm_lists.proofs.Orders.{in_order_filter}
-use Rattle.drm_lists.proofs.Chains.{itself, same_chain}
-use Rattle.drm_lists.proofs.Rising.{found, any_more, all_found, find_where}
+use Rattle.drm_index_array.specs.Numbers.{is_among}
+use Rattle.drm_index_array.specs.Chains.{is_under}
+use Rattle.drm_index_array.proofs.Lists.{all_each, all_weaker, all_both, all_filter, filter_all, filter-same, filter-both, filter_true, some_passing}
+use Rattle.drm_index_array.proofs.Each.{each_fails, none_passes}
+use Rattle.drm_index_array.proofs.Numbers.{flipped}
+use Rattle.drm_index_array.proofs.Orders.{in_order_filter}
+use Rattle.drm_index_array.proofs.Chains.{itself, same_chain}
+use Rattle.drm_index_array.proofs.Rising.{found, any_more, all_found, find_where}
 use Rattle.drm_masters.specs.declared.rows.Member.{Member}
 use Rattle.drm_masters.specs.declared.rows.Master.{Master}
 use Rattle.drm_masters.specs.Masters.{is_step_number, is_option, master_at, lessor_of, is_held, is_used, is_living, HasOlderLessor}

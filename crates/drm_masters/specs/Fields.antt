@@ -1,6 +1,6 @@
 -- The masters that the fields represent (own).
 use Rattle.std.specs.Prelude.{◌≡◌, ◌==◌, false}
-use Rattle.drm_lists.specs.Orders.{InOrder}
+use Rattle.drm_index_array.specs.Orders.{InOrder}
 use Rattle.drm_masters.specs.declared.rows.Master.{Master}
 use Rattle.drm_masters.specs.declared.masters.Masters.TheInside.{Inside}
 use Rattle.drm_masters.specs.Masters.{MasterSet, AreMasters}

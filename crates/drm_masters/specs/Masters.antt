@@ -4,9 +4,9 @@ use Rattle.std.specs.Prelude.{◌≡◌, ℕ, ◌==◌, ◌<◌, ◌≤◌, nat_
 use Rattle.std.specs.List.{list_any, AllByRecursion}
 use Rattle.std.specs.Option.{is_some, option_map, option_map_or, option_and_then}
 use Rattle.drm_index_array.specs.Least.{least}
-use Rattle.drm_lists.specs.Orders.{InOrder}
-use Rattle.drm_lists.specs.Chains as chains
-use Rattle.drm_lists.specs.Chains.{is_under, top_of}
+use Rattle.drm_index_array.specs.Orders.{InOrder}
+use Rattle.drm_index_array.specs.Chains as chains
+use Rattle.drm_index_array.specs.Chains.{is_under, top_of}
 use Rattle.drm_masters.specs.declared.rows.Magic.{Magic}
 use Rattle.drm_masters.specs.declared.rows.Master.{Master}
 use Rattle.drm_masters.specs.declared.rows.MasterRow.{MasterRow}

@@ -14,7 +14,7 @@ use drm_table::Rule;
 /// let Ok(_first) = masters.on_open(1, 1) else { return };
 /// assert!(rt; masters.member(1).is_none() || masters.set(1, false, 2) == Ok(SetDone::Already));
 /// ```
-#[derive(Clone, Copy, PartialEq, Eq, Debug)]
+#[derive(Clone, Copy, PartialEq, Debug)]
 pub enum SetDone {
     /// The client was current already.
     Already,
@@ -39,7 +39,7 @@ pub enum SetDone {
 /// let denied = Err(SetFault::Denied(Rule::MasterPerm));
 /// assert!(rt; masters.member(2).is_none() || masters.set(2, false, 3) == denied);
 /// ```
-#[derive(Clone, Copy, PartialEq, Eq, Debug)]
+#[derive(Clone, Copy, PartialEq, Debug)]
 pub enum SetFault {
     /// A rule denies it.
     Denied(Rule),
@@ -60,7 +60,7 @@ pub enum SetFault {
 /// let Some(owner) = masters.master(1) else { return };
 /// assert!(rt; masters.make_lessee(owner.key, 4) == Err(LesseeFault::Full));
 /// ```
-#[derive(Clone, Copy, PartialEq, Eq, Debug)]
+#[derive(Clone, Copy, PartialEq, Debug)]
 pub enum LesseeFault {
     /// The owner has a lessee of each id (own).
     Full,

@@ -18,7 +18,7 @@ use std::marker::Model;
 /// let Some(key) = masters.master_of(1) else { return };
 /// assert!(rt; matches!(masters.master(1), Some(row) if row.key == key));
 /// ```
-#[derive(Clone, Copy, PartialEq, Eq, Debug)]
+#[derive(Clone, Copy, PartialEq, Debug)]
 pub struct MasterKey {
     number: u32,
 }
@@ -64,7 +64,7 @@ impl MasterKey {
 /// let magic = Some(Magic { number: 1, spent: false });
 /// assert!(rt; matches!(masters.member(1), Some(row) if row.magic == magic));
 /// ```
-#[derive(Clone, Copy, PartialEq, Eq, Debug)]
+#[derive(Clone, Copy, PartialEq, Debug)]
 pub struct Magic {
     /// The number, from 1.
     pub number: u32,
@@ -73,7 +73,7 @@ pub struct Magic {
 }
 
 /// An open client's relation to its master. A render client has none, and is not listed.
-#[derive(Clone, Copy, PartialEq, Eq, Debug)]
+#[derive(Clone, Copy, PartialEq, Debug)]
 pub struct Member {
     /// The client's number.
     pub client: u32,
@@ -100,7 +100,7 @@ pub struct Member {
 /// let member = Member { client: 1, once_master: true, is_master: true, master: 1, magic: None };
 /// assert!(rt; matches!(masters.nth(1, 0), Some(MasterRow::Client(row)) if row == member));
 /// ```
-#[derive(Clone, Copy, PartialEq, Eq, Debug)]
+#[derive(Clone, Copy, PartialEq, Debug)]
 pub enum MasterRow {
     /// A row of kind 1, of a client that belongs to a master.
     Client(Member),
@@ -122,7 +122,7 @@ pub enum MasterRow {
 /// let master = Master { key, step_number: 1, lessor: None, lessee_id: 0, kept: false };
 /// assert!(rt; masters.nth_master(0) == Some(master));
 /// ```
-#[derive(Clone, Copy, PartialEq, Eq, Debug)]
+#[derive(Clone, Copy, PartialEq, Debug)]
 pub struct Master {
     /// The key of the master.
     pub key: MasterKey,

@@ -2,7 +2,7 @@
 
 ghost use Rattle.std.specs.Prelude.{◌≡◌, ◌<◌, ◌==◌, true, false, filter};
 ghost use Rattle.std.specs.List.{AllByRecursion};
-ghost use Rattle.drm_lists.specs.Orders.{InOrder};
+ghost use Rattle.drm_index_array.specs.Orders.{InOrder};
 ghost use Rattle.drm_masters.specs.Masters as sets;
 ghost use Rattle.drm_masters.specs.Tables.{members_in};
 

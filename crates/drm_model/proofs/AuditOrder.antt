@@ -3,7 +3,7 @@ use Rattle.std.proofs.Common.{◌≡◌, ◌==◌, Bool, true, false, ◌&&◌, 
 use Rattle.std.proofs.lemmas.Bool.{eqb-true, and_parts}
 use Rattle.std.proofs.lemmas.Bool.Decides.{nat_tests}
 use Rattle.drm_table.specs.declared.audits.AuditRow.{AuditRow}
-use Rattle.drm_lists.proofs.Orders.{IsOrder}
+use Rattle.drm_index_array.proofs.Orders.{IsOrder}
 use Rattle.drm_model.specs.Audit.{is_before}
 
 abbrev pub is_row : AuditRow → AuditRow → Bool

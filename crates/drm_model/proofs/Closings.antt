@@ -13,7 +13,7 @@ use Rattle.drm_model.specs.Change.{changed}
 use Rattle.drm_model.specs.Reply.{reply, reply_by, answer_of}
 use Rattle.drm_model.specs.Run.{Step, Growing, IsLonger, no_room}
 use Rattle.drm_model.proofs.EventChanges.{client_after, client_stays, framebuffer_stays, handle_after, handle_stays, magic_after, magic_stays, master_after, object_after, token_stays, grant_stays, each_edits}
-use Rattle.drm_lists.proofs.Edits.{edited, length-edited}
+use Rattle.drm_index_array.proofs.Edits.{edited, length-edited}
 
 longer-not : (w v : Rows) → length v.clients ≤ length w.clients → length v.masters ≤ length w.masters
     → length v.magics ≤ length w.magics →

@@ -4,7 +4,7 @@ use Rattle.std.specs.Prelude.{if◌then◌else◌}
 use Rattle.std.specs.List.{list_any}
 use Rattle.std.specs.Option.{is_some, option_map_or, option_and_then}
 use Rattle.std.proofs.lemmas.Bool.{eqb-true, and_right}
-use Rattle.drm_lists.proofs.Lists.{list_any-map, none_each, none_left, none_filtered}
+use Rattle.drm_index_array.proofs.Lists.{list_any-map, none_each, none_left, none_filtered}
 use Rattle.drm_table.specs.declared.events.Event.TheVariants.{Ask, Close}
 use Rattle.drm_table.specs.declared.calls.Call.TheVariants.{RevokeLease}
 use Rattle.drm_model.specs.Rows.{Rows, ClientRow, MasterRow, is_open, client_row}

@@ -3,7 +3,7 @@
 use Rattle.std.proofs.Common.{◌≡◌, ℕ, ◌==◌, Bool, true, false, not, ◌||◌, List, [], ◌∷◌, ◌++◌, map, Option, None, Some, refl}
 use Rattle.std.specs.Prelude.{if◌then◌else◌, unwrap_or}
 use Rattle.std.specs.Option.{option_map}
-use Rattle.drm_lists.proofs.Edits.{edited, listed, alone, left, added, mapped, replaced}
+use Rattle.drm_index_array.proofs.Edits.{edited, listed, alone, left, added, mapped, replaced}
 use Rattle.drm_table.specs.declared.calls.Call.{Call}
 use Rattle.drm_table.specs.declared.calls.Call.TheVariants.{Version, GetMagic, GemClose, GemFlink, GemOpen, SetClientCap, AuthMagic, SetMaster, DropMaster, PrimeHandleToFd, PrimeFdToHandle, BufCreate, StampWrite, TokenClose, SetCrtc, GetFb, AddFb, RmFb, CreateDumb, DestroyDumb, SetPlane, CreateLease, RevokeLease}
 use Rattle.drm_table.specs.declared.events.Event.{Event}

@@ -1,7 +1,7 @@
 -- A step adds few rows to each list.
 use Rattle.std.proofs.Common.{ℕ, ◌≡◌, ◌+◌, ◌*◌, ◌≤◌, Bool, true, List, map, filter, length, Option, None, sym, subst, arith, ap}
 use Rattle.std.proofs.lemmas.List.{length-map}
-use Rattle.drm_lists.proofs.Lists.{filter-shorter}
+use Rattle.drm_index_array.proofs.Lists.{filter-shorter}
 use Rattle.drm_table.specs.declared.audits.AuditKind.{AuditKind}
 use Rattle.drm_table.specs.declared.audits.AuditKind.TheVariants as kinds
 use Rattle.drm_table.specs.declared.calls.Call.TheVariants.{CreateLease}
@@ -19,7 +19,7 @@ use Rattle.drm_model.specs.Run.{rows_of, DeviceValue}
 use Rattle.drm_model.proofs.Journals.{after-topology, after-steps}
 use Rattle.drm_model.proofs.FewLeased.{few_leased}
 use Rattle.drm_model.proofs.EventChanges.{along, by_verdict, client_after, client_stays, framebuffer_stays, handle_after, handle_stays, magic_after, magic_stays, master_after, new_client_row, new_framebuffer_row, new_grants, new_handle_row, new_magic_row, new_master_row, new_name_row, new_object_row, new_shown_row, new_token_row, object_after, shown_stays, token_stays, grant_stays, each_edits}
-use Rattle.drm_lists.proofs.Edits.{edited, length-edited, length-listed, listed}
+use Rattle.drm_index_array.proofs.Edits.{edited, length-edited, length-listed, listed}
 
 few-filter : {X : Type 0} (p : X → Bool) (xs : List X) (most : ℕ) → length xs ≤ most → length (filter p xs) ≤ most
 few-filter p xs most h = let f = filter-shorter p xs in omega (arith, f, h)

@@ -1,8 +1,8 @@
 -- The answers hold few ids: their lists show fixed mode objects and framebuffers, of each 64 at most.
 use Rattle.std.proofs.Common.{◌≡◌, ℕ, zero, suc, ◌+◌, ◌≤◌, ◌==◌, nat_le, map, filter, length, Option, None, Some, Ok, refl, ap, arith}
 use Rattle.std.proofs.lemmas.List.{length-map}
-use Rattle.drm_lists.proofs.Lists.{filter-shorter}
-use Rattle.drm_lists.proofs.Orders.{length-sorted}
+use Rattle.drm_index_array.proofs.Lists.{filter-shorter}
+use Rattle.drm_index_array.proofs.Orders.{length-sorted}
 use Rattle.drm_table.specs.Results.{FitsOneFrame}
 use Rattle.drm_table.specs.declared.calls.Call.{Call}
 use Rattle.drm_table.specs.declared.calls.Call.TheVariants.{GetResources, GetFb}

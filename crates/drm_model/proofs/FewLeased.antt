@@ -4,8 +4,8 @@ use Rattle.std.specs.Prelude.{if◌then◌else◌}
 use Rattle.std.specs.List.{list_all, AllByRecursion}
 use Rattle.std.specs.Option.{is_some, option_map_or}
 use Rattle.std.proofs.lemmas.Bool.{false≢true}
-use Rattle.drm_lists.specs.Numbers.{is_among, count}
-use Rattle.drm_lists.proofs.Numbers.{all_among, among-append, few_once}
+use Rattle.drm_index_array.specs.Numbers.{is_among, count}
+use Rattle.drm_index_array.proofs.Numbers.{all_among, among-append, few_once}
 use Rattle.drm_table.specs.Permit.{Check, first_failing}
 use Rattle.drm_table.specs.declared.calls.Call.{Call}
 use Rattle.drm_table.specs.declared.calls.Call.TheVariants.{CreateLease}

@@ -3,7 +3,7 @@ use Rattle.std.proofs.Common.{◌≡◌, ℕ, suc, ◌+◌, ◌≤◌, nat_lt, B
 use Rattle.std.specs.Option.{is_some}
 use Rattle.std.proofs.lemmas.Bool.{ltb-false}
 use Rattle.std.proofs.lemmas.List.{length-map}
-use Rattle.drm_lists.proofs.Lists.{filter-shorter}
+use Rattle.drm_index_array.proofs.Lists.{filter-shorter}
 use Rattle.drm_table.specs.declared.calls.Call.{Call}
 use Rattle.drm_table.specs.declared.events.Event.{Event}
 use Rattle.drm_table.specs.declared.events.Event.TheVariants.{Open, Ask, Close}
@@ -17,7 +17,7 @@ use Rattle.drm_model.specs.Clients.{closed}
 use Rattle.drm_model.specs.Run.{FoundRoom, no_room, places_left, run, rows_of, DeviceValue, journaled_in}
 use Rattle.drm_model.proofs.EventChanges.{client_after, opened_row, each_edits}
 use Rattle.drm_model.proofs.Closings.{closing_verdict}
-use Rattle.drm_lists.proofs.Edits.{added, mapped}
+use Rattle.drm_index_array.proofs.Edits.{added, mapped}
 
 -- A run of one more event is the run before, then the step of that event.
 pub run_push : (w : Rows) (events : List Event) (event : Event)

@@ -3,8 +3,8 @@ use Rattle.std.proofs.Common.{◌≡◌, ◌∙◌, ℕ, ◌+◌, ◌≤◌, ◌
 use Rattle.std.specs.Prelude.{if◌then◌else◌, IfSome}
 use Rattle.std.specs.List.{list_any}
 use Rattle.std.proofs.lemmas.Bool.{and_right}
-use Rattle.drm_lists.proofs.Lists.{list_any-map, none_each, none_filtered}
-use Rattle.drm_lists.proofs.Numbers.{flipped, less-differ}
+use Rattle.drm_index_array.proofs.Lists.{list_any-map, none_each, none_filtered}
+use Rattle.drm_index_array.proofs.Numbers.{flipped, less-differ}
 use Rattle.drm_table.specs.declared.calls.Call.TheVariants.{CreateLease}
 use Rattle.drm_table.specs.declared.events.Event.{Event}
 use Rattle.drm_table.specs.declared.events.Event.TheVariants.{Open, Ask, Close}
@@ -16,7 +16,7 @@ use Rattle.drm_model.specs.Endings.{HasEnded, is_grant_of, is_open_lease}
 use Rattle.drm_model.proofs.Journals.{after-steps}
 use Rattle.drm_model.proofs.EventChanges.{along, master_after, new_grants, new_master_row, spends_token, by_verdict, grant_stays, each_edits}
 use Rattle.std.specs.Option.{is_some}
-use Rattle.drm_lists.proofs.Edits.{listed, none_edited}
+use Rattle.drm_index_array.proofs.Edits.{listed, none_edited}
 use Rattle.drm_model.proofs.StepNumbers.{master-new}
 
 -- the two lists that are read

@@ -5,13 +5,13 @@ use Rattle.std.specs.List.{list_any, list_all, AllByRecursion}
 use Rattle.std.specs.Option.{is_some, option_map, option_and_then}
 use Rattle.std.proofs.lemmas.Bool.{eqb-true, ltb-true, and_left, not-true, and_parts}
 use Rattle.std.proofs.lemmas.List.Folds.{list_any-append}
-use Rattle.drm_lists.specs.Chains.{is_under}
-use Rattle.drm_lists.specs.Chains as chains
-use Rattle.drm_lists.proofs.Chains.{IsFalling, same_chain, depth_none, depth_some, depth_fewer, under_some}
-use Rattle.drm_lists.proofs.Lists.{all_append, all_both, all_weaker, all_each, filter_true, list_any-map, list_any_left, some_passing, none_each, none_filtered}
-use Rattle.drm_lists.proofs.FoundInLists.{all_found, find-map, find-same, find_last}
-use Rattle.drm_lists.proofs.Rising.{any_left, find_more, find_where}
-use Rattle.drm_lists.proofs.Numbers.{less-differ, flipped}
+use Rattle.drm_index_array.specs.Chains.{is_under}
+use Rattle.drm_index_array.specs.Chains as chains
+use Rattle.drm_index_array.proofs.Chains.{IsFalling, same_chain, depth_none, depth_some, depth_fewer, under_some}
+use Rattle.drm_index_array.proofs.Lists.{all_append, all_both, all_weaker, all_each, filter_true, list_any-map, list_any_left, some_passing, none_each, none_filtered}
+use Rattle.drm_index_array.proofs.FoundInLists.{all_found, find-map, find-same, find_last}
+use Rattle.drm_index_array.proofs.Rising.{any_left, find_more, find_where}
+use Rattle.drm_index_array.proofs.Numbers.{less-differ, flipped}
 use Rattle.drm_table.specs.declared.calls.Call.{Call}
 use Rattle.drm_table.specs.declared.calls.Call.TheVariants.{Version, SetMaster, CreateLease, RevokeLease}
 use Rattle.drm_table.specs.declared.events.Event.{Event}

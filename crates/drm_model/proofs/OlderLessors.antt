@@ -4,8 +4,8 @@ use Rattle.std.specs.Prelude.{unwrap_or, IfSome}
 use Rattle.std.specs.List.{AllByRecursion}
 use Rattle.std.specs.Option.{option_map, option_and_then}
 use Rattle.std.proofs.lemmas.Bool.{eqb-true}
-use Rattle.drm_lists.proofs.Lists.{all_weaker, all_filter}
-use Rattle.drm_lists.proofs.FoundInLists.{all_found, found_passes}
+use Rattle.drm_index_array.proofs.Lists.{all_weaker, all_filter}
+use Rattle.drm_index_array.proofs.FoundInLists.{all_found, found_passes}
 use Rattle.drm_table.specs.declared.calls.Call.TheVariants.{SetClientCap, AuthMagic, SetMaster, DropMaster, CreateLease}
 use Rattle.drm_table.specs.declared.events.Event.{Event}
 use Rattle.drm_table.specs.declared.events.Event.TheVariants.{Open, Ask, Close}
@@ -22,7 +22,7 @@ use Rattle.drm_model.specs.Calls.{meaning}
 use Rattle.drm_model.specs.Change.{after, changed, swept, journaled}
 use Rattle.drm_model.specs.Run.{rows_of, DeviceValue}
 use Rattle.drm_model.proofs.Journals.{after-steps}
-use Rattle.drm_lists.proofs.Edits.{all_edited, all_listed, either, listed}
+use Rattle.drm_index_array.proofs.Edits.{all_edited, all_listed, either, listed}
 use Rattle.drm_model.proofs.EventChanges.{along, by_verdict, client_after, client_stays, founded_master, master_after, new_client_row, new_master_row, new_object_row, object_after, primary_row, set_master_row, set_row, spends_token, each_edits}
 use Rattle.drm_model.proofs.StepNumbers.{object-new, object-same}
 

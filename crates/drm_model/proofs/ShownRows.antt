@@ -1,9 +1,9 @@
 -- A CRTC and a plane show one framebuffer at most, which exists.
 use Rattle.std.proofs.Common.{◌≡◌, ℕ, ◌==◌, true, not, Option, None, Some, sym, subst, ap}
 use Rattle.std.specs.Prelude.{IfSome}
-use Rattle.drm_lists.specs.Orders.{InOrder}
-use Rattle.drm_lists.proofs.Lists.{filter_true, all_each}
-use Rattle.drm_lists.proofs.Orders.{in_order_filter}
+use Rattle.drm_index_array.specs.Orders.{InOrder}
+use Rattle.drm_index_array.proofs.Lists.{filter_true, all_each}
+use Rattle.drm_index_array.proofs.Orders.{in_order_filter}
 use Rattle.drm_table.specs.declared.calls.Call.TheVariants.{SetCrtc, SetPlane}
 use Rattle.drm_table.specs.declared.events.Event.{Event}
 use Rattle.drm_table.specs.declared.events.Event.TheVariants.{Open, Ask, Close}
@@ -12,7 +12,7 @@ use Rattle.drm_model.specs.Shown.{IsOtherEngine, EachShowsOne}
 use Rattle.drm_model.specs.Change.{changed, swept, journaled, after}
 use Rattle.drm_model.specs.Run.{DeviceValue, rows_of}
 use Rattle.drm_model.proofs.EventChanges.{along, by_verdict, new_shown_row, now_shown, shown_stays, each_edits}
-use Rattle.drm_lists.proofs.Edits.{either, in_order_edited}
+use Rattle.drm_index_array.proofs.Edits.{either, in_order_edited}
 use Rattle.std.proofs.lemmas.Bool.{not-true}
 
 abbrev ShowOnce : Rows → Type 0

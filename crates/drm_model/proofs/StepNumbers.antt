@@ -1,9 +1,9 @@
 -- Step numbers rise along a run.
 use Rattle.std.proofs.Common.{◌≡◌, ℕ, ◌+◌, ◌==◌, ◌<◌, ◌≤◌, Bool, true, false, List, filter, Option, None, Some, refl, sym, subst, arith, ap}
 use Rattle.std.specs.Prelude.{IfSome}
-use Rattle.drm_lists.proofs.Lists.{all_weaker, all_filter}
-use Rattle.drm_lists.proofs.Orders.{in_order_filter}
-use Rattle.drm_lists.proofs.Edits.{edited, listed, either, all_listed, all_edited, in_order_edited}
+use Rattle.drm_index_array.proofs.Lists.{all_weaker, all_filter}
+use Rattle.drm_index_array.proofs.Orders.{in_order_filter}
+use Rattle.drm_index_array.proofs.Edits.{edited, listed, either, all_listed, all_edited, in_order_edited}
 use Rattle.drm_table.specs.declared.calls.Call.TheVariants.{SetClientCap, AuthMagic, SetMaster, BufCreate, StampWrite, CreateDumb, CreateLease}
 use Rattle.drm_table.specs.declared.events.Event.{Event}
 use Rattle.drm_table.specs.declared.events.Event.TheVariants.{Open, Ask, Close}

@@ -10,9 +10,9 @@ use Rattle.drm_table.specs.declared.events.Event.TheVariants.{Open, Ask, Close}
 use Rattle.drm_table.specs.declared.events.Opening.TheVariants.{Primary, Render}
 use Rattle.drm_table.specs.declared.limits.Limits.{Limits}
 use Rattle.drm_table.specs.declared.audits.AuditKind.TheVariants.{Object as OfObject, Framebuffer as OfFramebuffer, Shown as OfShown}
+use Rattle.drm_index_array.specs.Chains.{chain_within}
 use Rattle.drm_index_array.specs.Least.{first_passing, least}
-use Rattle.drm_lists.specs.Chains.{chain_within}
-use Rattle.drm_lists.specs.Orders.{sorted_by}
+use Rattle.drm_index_array.specs.Orders.{sorted_by}
 use Rattle.drm_modes.specs.Numbers.{numbers_from}
 use Rattle.drm_table.specs.Answers.{answer_kind_row, told, answer_with, answer_kind_of}
 use Rattle.drm_table.specs.Audits.{kind_number, kind_of, kind_name}
@@ -70,7 +70,7 @@ framebuffers_are_shown_on_crtcs-steps =
     []
 
 pub framebuffers_are_shown_on_crtcs : Gives program_limits framebuffers_are_shown_on_crtcs-steps
-unfolding first_passing least chain_within sorted_by numbers_from answer_kind_row told answer_with answer_kind_of kind_number kind_of kind_name are_in_range rule_of_number apart_of_number kind_row call_row call_with call_kind_of call_kind_of_word row_of call_number flags_of audit_rows audit_page dumb_pitch dumb_size buffer_size with_object with_stamp meaning with_client_capability changed swept after opening_checks opened closed ended with_spent with_authenticated with_master count_in answer_of reply results no_room run rows_of controls sees with_export_order prime_handle admission_checks checks verdict
+unfolding chain_within first_passing least sorted_by numbers_from answer_kind_row told answer_with answer_kind_of kind_number kind_of kind_name are_in_range rule_of_number apart_of_number kind_row call_row call_with call_kind_of call_kind_of_word row_of call_number flags_of audit_rows audit_page dumb_pitch dumb_size buffer_size with_object with_stamp meaning with_client_capability changed swept after opening_checks opened closed ended with_spent with_authenticated with_master count_in answer_of reply results no_room run rows_of controls sees with_export_order prime_handle admission_checks checks verdict
 framebuffers_are_shown_on_crtcs = refl
 
 abbrev mode_objects_and_what_planes_show-steps : List (Event × Result Answer Apart)
@@ -92,7 +92,7 @@ mode_objects_and_what_planes_show-steps =
     []
 
 pub mode_objects_and_what_planes_show : Gives program_limits mode_objects_and_what_planes_show-steps
-unfolding first_passing least chain_within sorted_by numbers_from answer_kind_row told answer_with answer_kind_of kind_number kind_of kind_name are_in_range rule_of_number apart_of_number kind_row call_row call_with call_kind_of call_kind_of_word row_of call_number flags_of audit_rows audit_page dumb_pitch dumb_size buffer_size with_object with_stamp meaning with_client_capability changed swept after opening_checks opened closed ended with_spent with_authenticated with_master count_in answer_of reply results no_room run rows_of controls sees with_export_order prime_handle admission_checks checks verdict
+unfolding chain_within first_passing least sorted_by numbers_from answer_kind_row told answer_with answer_kind_of kind_number kind_of kind_name are_in_range rule_of_number apart_of_number kind_row call_row call_with call_kind_of call_kind_of_word row_of call_number flags_of audit_rows audit_page dumb_pitch dumb_size buffer_size with_object with_stamp meaning with_client_capability changed swept after opening_checks opened closed ended with_spent with_authenticated with_master count_in answer_of reply results no_room run rows_of controls sees with_export_order prime_handle admission_checks checks verdict
 mode_objects_and_what_planes_show = refl
 
 abbrev mode_objects_are_of_their_kinds-steps : List (Event × Result Answer Apart)
@@ -113,7 +113,7 @@ mode_objects_are_of_their_kinds-steps =
     []
 
 pub mode_objects_are_of_their_kinds : Gives program_limits mode_objects_are_of_their_kinds-steps
-unfolding first_passing least chain_within sorted_by numbers_from answer_kind_row told answer_with answer_kind_of kind_number kind_of kind_name are_in_range rule_of_number apart_of_number kind_row call_row call_with call_kind_of call_kind_of_word row_of call_number flags_of audit_rows audit_page dumb_pitch dumb_size buffer_size with_object with_stamp meaning with_client_capability changed swept after opening_checks opened closed ended with_spent with_authenticated with_master count_in answer_of reply results no_room run rows_of controls sees with_export_order prime_handle admission_checks checks verdict
+unfolding chain_within first_passing least sorted_by numbers_from answer_kind_row told answer_with answer_kind_of kind_number kind_of kind_name are_in_range rule_of_number apart_of_number kind_row call_row call_with call_kind_of call_kind_of_word row_of call_number flags_of audit_rows audit_page dumb_pitch dumb_size buffer_size with_object with_stamp meaning with_client_capability changed swept after opening_checks opened closed ended with_spent with_authenticated with_master count_in answer_of reply results no_room run rows_of controls sees with_export_order prime_handle admission_checks checks verdict
 mode_objects_are_of_their_kinds = refl
 
 abbrev mode_objects_of_guests_and_render_clients-steps : List (Event × Result Answer Apart)
@@ -137,7 +137,7 @@ mode_objects_of_guests_and_render_clients-steps =
     []
 
 pub mode_objects_of_guests_and_render_clients : Gives program_limits mode_objects_of_guests_and_render_clients-steps
-unfolding first_passing least chain_within sorted_by numbers_from answer_kind_row told answer_with answer_kind_of kind_number kind_of kind_name are_in_range rule_of_number apart_of_number kind_row call_row call_with call_kind_of call_kind_of_word row_of call_number flags_of audit_rows audit_page dumb_pitch dumb_size buffer_size with_object with_stamp meaning with_client_capability changed swept after opening_checks opened closed ended with_spent with_authenticated with_master count_in answer_of reply results no_room run rows_of controls sees with_export_order prime_handle admission_checks checks verdict
+unfolding chain_within first_passing least sorted_by numbers_from answer_kind_row told answer_with answer_kind_of kind_number kind_of kind_name are_in_range rule_of_number apart_of_number kind_row call_row call_with call_kind_of call_kind_of_word row_of call_number flags_of audit_rows audit_page dumb_pitch dumb_size buffer_size with_object with_stamp meaning with_client_capability changed swept after opening_checks opened closed ended with_spent with_authenticated with_master count_in answer_of reply results no_room run rows_of controls sees with_export_order prime_handle admission_checks checks verdict
 mode_objects_of_guests_and_render_clients = refl
 
 abbrev framebuffers_are_their_clients_to_remove-steps : List (Event × Result Answer Apart)
@@ -157,7 +157,7 @@ framebuffers_are_their_clients_to_remove-steps =
     []
 
 pub framebuffers_are_their_clients_to_remove : Gives program_limits framebuffers_are_their_clients_to_remove-steps
-unfolding first_passing least chain_within sorted_by numbers_from answer_kind_row told answer_with answer_kind_of kind_number kind_of kind_name are_in_range rule_of_number apart_of_number kind_row call_row call_with call_kind_of call_kind_of_word row_of call_number flags_of audit_rows audit_page dumb_pitch dumb_size buffer_size with_object with_stamp meaning with_client_capability changed swept after opening_checks opened closed ended with_spent with_authenticated with_master count_in answer_of reply results no_room run rows_of controls sees with_export_order prime_handle admission_checks checks verdict
+unfolding chain_within first_passing least sorted_by numbers_from answer_kind_row told answer_with answer_kind_of kind_number kind_of kind_name are_in_range rule_of_number apart_of_number kind_row call_row call_with call_kind_of call_kind_of_word row_of call_number flags_of audit_rows audit_page dumb_pitch dumb_size buffer_size with_object with_stamp meaning with_client_capability changed swept after opening_checks opened closed ended with_spent with_authenticated with_master count_in answer_of reply results no_room run rows_of controls sees with_export_order prime_handle admission_checks checks verdict
 framebuffers_are_their_clients_to_remove = refl
 
 abbrev what_is_shown_goes_dark-steps : List (Event × Result Answer Apart)
@@ -183,7 +183,7 @@ what_is_shown_goes_dark-steps =
     []
 
 pub what_is_shown_goes_dark : Gives program_limits what_is_shown_goes_dark-steps
-unfolding first_passing least chain_within sorted_by numbers_from answer_kind_row told answer_with answer_kind_of kind_number kind_of kind_name are_in_range rule_of_number apart_of_number kind_row call_row call_with call_kind_of call_kind_of_word row_of call_number flags_of audit_rows audit_page dumb_pitch dumb_size buffer_size with_object with_stamp meaning with_client_capability changed swept after opening_checks opened closed ended with_spent with_authenticated with_master count_in answer_of reply results no_room run rows_of controls sees with_export_order prime_handle admission_checks checks verdict
+unfolding chain_within first_passing least sorted_by numbers_from answer_kind_row told answer_with answer_kind_of kind_number kind_of kind_name are_in_range rule_of_number apart_of_number kind_row call_row call_with call_kind_of call_kind_of_word row_of call_number flags_of audit_rows audit_page dumb_pitch dumb_size buffer_size with_object with_stamp meaning with_client_capability changed swept after opening_checks opened closed ended with_spent with_authenticated with_master count_in answer_of reply results no_room run rows_of controls sees with_export_order prime_handle admission_checks checks verdict
 what_is_shown_goes_dark = refl
 
 abbrev planes_go_dark_on_any_crtc-steps : List (Event × Result Answer Apart)
@@ -208,7 +208,7 @@ planes_go_dark_on_any_crtc-steps =
     []
 
 pub planes_go_dark_on_any_crtc : Gives program_limits planes_go_dark_on_any_crtc-steps
-unfolding first_passing least chain_within sorted_by numbers_from answer_kind_row told answer_with answer_kind_of kind_number kind_of kind_name are_in_range rule_of_number apart_of_number kind_row call_row call_with call_kind_of call_kind_of_word row_of call_number flags_of audit_rows audit_page dumb_pitch dumb_size buffer_size with_object with_stamp meaning with_client_capability changed swept after opening_checks opened closed ended with_spent with_authenticated with_master count_in answer_of reply results no_room run rows_of controls sees with_export_order prime_handle admission_checks checks verdict
+unfolding chain_within first_passing least sorted_by numbers_from answer_kind_row told answer_with answer_kind_of kind_number kind_of kind_name are_in_range rule_of_number apart_of_number kind_row call_row call_with call_kind_of call_kind_of_word row_of call_number flags_of audit_rows audit_page dumb_pitch dumb_size buffer_size with_object with_stamp meaning with_client_capability changed swept after opening_checks opened closed ended with_spent with_authenticated with_master count_in answer_of reply results no_room run rows_of controls sees with_export_order prime_handle admission_checks checks verdict
 planes_go_dark_on_any_crtc = refl
 
 abbrev crtcs_want_a_framebuffer_and_a_connector-steps : List (Event × Result Answer Apart)
@@ -234,7 +234,7 @@ crtcs_want_a_framebuffer_and_a_connector-steps =
     []
 
 pub crtcs_want_a_framebuffer_and_a_connector : Gives program_limits crtcs_want_a_framebuffer_and_a_connector-steps
-unfolding first_passing least chain_within sorted_by numbers_from answer_kind_row told answer_with answer_kind_of kind_number kind_of kind_name are_in_range rule_of_number apart_of_number kind_row call_row call_with call_kind_of call_kind_of_word row_of call_number flags_of audit_rows audit_page dumb_pitch dumb_size buffer_size with_object with_stamp meaning with_client_capability changed swept after opening_checks opened closed ended with_spent with_authenticated with_master count_in answer_of reply results no_room run rows_of controls sees with_export_order prime_handle admission_checks checks verdict
+unfolding chain_within first_passing least sorted_by numbers_from answer_kind_row told answer_with answer_kind_of kind_number kind_of kind_name are_in_range rule_of_number apart_of_number kind_row call_row call_with call_kind_of call_kind_of_word row_of call_number flags_of audit_rows audit_page dumb_pitch dumb_size buffer_size with_object with_stamp meaning with_client_capability changed swept after opening_checks opened closed ended with_spent with_authenticated with_master count_in answer_of reply results no_room run rows_of controls sees with_export_order prime_handle admission_checks checks verdict
 crtcs_want_a_framebuffer_and_a_connector = refl
 
 abbrev framebuffers_fit_their_objects-steps : List (Event × Result Answer Apart)
@@ -258,7 +258,7 @@ framebuffers_fit_their_objects-steps =
     []
 
 pub framebuffers_fit_their_objects : Gives program_limits framebuffers_fit_their_objects-steps
-unfolding first_passing least chain_within sorted_by numbers_from answer_kind_row told answer_with answer_kind_of kind_number kind_of kind_name are_in_range rule_of_number apart_of_number kind_row call_row call_with call_kind_of call_kind_of_word row_of call_number flags_of audit_rows audit_page dumb_pitch dumb_size buffer_size with_object with_stamp meaning with_client_capability changed swept after opening_checks opened closed ended with_spent with_authenticated with_master count_in answer_of reply results no_room run rows_of controls sees with_export_order prime_handle admission_checks checks verdict
+unfolding chain_within first_passing least sorted_by numbers_from answer_kind_row told answer_with answer_kind_of kind_number kind_of kind_name are_in_range rule_of_number apart_of_number kind_row call_row call_with call_kind_of call_kind_of_word row_of call_number flags_of audit_rows audit_page dumb_pitch dumb_size buffer_size with_object with_stamp meaning with_client_capability changed swept after opening_checks opened closed ended with_spent with_authenticated with_master count_in answer_of reply results no_room run rows_of controls sees with_export_order prime_handle admission_checks checks verdict
 framebuffers_fit_their_objects = refl
 
 abbrev framebuffer_ids_are_the_lowest_free-steps : List (Event × Result Answer Apart)
@@ -276,7 +276,7 @@ framebuffer_ids_are_the_lowest_free-steps =
     []
 
 pub framebuffer_ids_are_the_lowest_free : Gives program_limits framebuffer_ids_are_the_lowest_free-steps
-unfolding first_passing least chain_within sorted_by numbers_from answer_kind_row told answer_with answer_kind_of kind_number kind_of kind_name are_in_range rule_of_number apart_of_number kind_row call_row call_with call_kind_of call_kind_of_word row_of call_number flags_of audit_rows audit_page dumb_pitch dumb_size buffer_size with_object with_stamp meaning with_client_capability changed swept after opening_checks opened closed ended with_spent with_authenticated with_master count_in answer_of reply results no_room run rows_of controls sees with_export_order prime_handle admission_checks checks verdict
+unfolding chain_within first_passing least sorted_by numbers_from answer_kind_row told answer_with answer_kind_of kind_number kind_of kind_name are_in_range rule_of_number apart_of_number kind_row call_row call_with call_kind_of call_kind_of_word row_of call_number flags_of audit_rows audit_page dumb_pitch dumb_size buffer_size with_object with_stamp meaning with_client_capability changed swept after opening_checks opened closed ended with_spent with_authenticated with_master count_in answer_of reply results no_room run rows_of controls sees with_export_order prime_handle admission_checks checks verdict
 framebuffer_ids_are_the_lowest_free = refl
 
 abbrev framebuffers_keep_objects-steps : List (Event × Result Answer Apart)
@@ -299,7 +299,7 @@ framebuffers_keep_objects-steps =
     []
 
 pub framebuffers_keep_objects : Gives program_limits framebuffers_keep_objects-steps
-unfolding first_passing least chain_within sorted_by numbers_from answer_kind_row told answer_with answer_kind_of kind_number kind_of kind_name are_in_range rule_of_number apart_of_number kind_row call_row call_with call_kind_of call_kind_of_word row_of call_number flags_of audit_rows audit_page dumb_pitch dumb_size buffer_size with_object with_stamp meaning with_client_capability changed swept after opening_checks opened closed ended with_spent with_authenticated with_master count_in answer_of reply results no_room run rows_of controls sees with_export_order prime_handle admission_checks checks verdict
+unfolding chain_within first_passing least sorted_by numbers_from answer_kind_row told answer_with answer_kind_of kind_number kind_of kind_name are_in_range rule_of_number apart_of_number kind_row call_row call_with call_kind_of call_kind_of_word row_of call_number flags_of audit_rows audit_page dumb_pitch dumb_size buffer_size with_object with_stamp meaning with_client_capability changed swept after opening_checks opened closed ended with_spent with_authenticated with_master count_in answer_of reply results no_room run rows_of controls sees with_export_order prime_handle admission_checks checks verdict
 framebuffers_keep_objects = refl
 
 abbrev framebuffers_are_limited-steps : List (Event × Result Answer Apart)
@@ -322,7 +322,7 @@ framebuffers_are_limited-steps =
     []
 
 pub framebuffers_are_limited : Gives (record { clients = 4; handles = 2; names = 8; tokens = 8; objects = 8; framebuffers = 2; lessees = 4; journal = 50 }) framebuffers_are_limited-steps
-unfolding first_passing least chain_within sorted_by numbers_from answer_kind_row told answer_with answer_kind_of kind_number kind_of kind_name are_in_range rule_of_number apart_of_number kind_row call_row call_with call_kind_of call_kind_of_word row_of call_number flags_of audit_rows audit_page dumb_pitch dumb_size buffer_size with_object with_stamp meaning with_client_capability changed swept after opening_checks opened closed ended with_spent with_authenticated with_master count_in answer_of reply results no_room run rows_of controls sees with_export_order prime_handle admission_checks checks verdict
+unfolding chain_within first_passing least sorted_by numbers_from answer_kind_row told answer_with answer_kind_of kind_number kind_of kind_name are_in_range rule_of_number apart_of_number kind_row call_row call_with call_kind_of call_kind_of_word row_of call_number flags_of audit_rows audit_page dumb_pitch dumb_size buffer_size with_object with_stamp meaning with_client_capability changed swept after opening_checks opened closed ended with_spent with_authenticated with_master count_in answer_of reply results no_room run rows_of controls sees with_export_order prime_handle admission_checks checks verdict
 framebuffers_are_limited = refl
 
 abbrev framebuffers_give_handles_to_current_and_root_clients-steps : List (Event × Result Answer Apart)
@@ -346,7 +346,7 @@ framebuffers_give_handles_to_current_and_root_clients-steps =
     []
 
 pub framebuffers_give_handles_to_current_and_root_clients : Gives program_limits framebuffers_give_handles_to_current_and_root_clients-steps
-unfolding first_passing least chain_within sorted_by numbers_from answer_kind_row told answer_with answer_kind_of kind_number kind_of kind_name are_in_range rule_of_number apart_of_number kind_row call_row call_with call_kind_of call_kind_of_word row_of call_number flags_of audit_rows audit_page dumb_pitch dumb_size buffer_size with_object with_stamp meaning with_client_capability changed swept after opening_checks opened closed ended with_spent with_authenticated with_master count_in answer_of reply results no_room run rows_of controls sees with_export_order prime_handle admission_checks checks verdict
+unfolding chain_within first_passing least sorted_by numbers_from answer_kind_row told answer_with answer_kind_of kind_number kind_of kind_name are_in_range rule_of_number apart_of_number kind_row call_row call_with call_kind_of call_kind_of_word row_of call_number flags_of audit_rows audit_page dumb_pitch dumb_size buffer_size with_object with_stamp meaning with_client_capability changed swept after opening_checks opened closed ended with_spent with_authenticated with_master count_in answer_of reply results no_room run rows_of controls sees with_export_order prime_handle admission_checks checks verdict
 framebuffers_give_handles_to_current_and_root_clients = refl
 
 abbrev audits_of_framebuffers_and_what_is_shown-steps : List (Event × Result Answer Apart)
@@ -372,5 +372,5 @@ audits_of_framebuffers_and_what_is_shown-steps =
     []
 
 pub audits_of_framebuffers_and_what_is_shown : Gives program_limits audits_of_framebuffers_and_what_is_shown-steps
-unfolding first_passing least chain_within sorted_by numbers_from answer_kind_row told answer_with answer_kind_of kind_number kind_of kind_name are_in_range rule_of_number apart_of_number kind_row call_row call_with call_kind_of call_kind_of_word row_of call_number flags_of audit_rows audit_page dumb_pitch dumb_size buffer_size with_object with_stamp meaning with_client_capability changed swept after opening_checks opened closed ended with_spent with_authenticated with_master count_in answer_of reply results no_room run rows_of controls sees with_export_order prime_handle admission_checks checks verdict
+unfolding chain_within first_passing least sorted_by numbers_from answer_kind_row told answer_with answer_kind_of kind_number kind_of kind_name are_in_range rule_of_number apart_of_number kind_row call_row call_with call_kind_of call_kind_of_word row_of call_number flags_of audit_rows audit_page dumb_pitch dumb_size buffer_size with_object with_stamp meaning with_client_capability changed swept after opening_checks opened closed ended with_spent with_authenticated with_master count_in answer_of reply results no_room run rows_of controls sees with_export_order prime_handle admission_checks checks verdict
 audits_of_framebuffers_and_what_is_shown = refl

@@ -10,9 +10,9 @@ use Rattle.drm_table.specs.declared.events.Event.TheVariants.{Open, Ask}
 use Rattle.drm_table.specs.declared.events.Opening.TheVariants.{Primary, Render, Lease}
 use Rattle.drm_table.specs.declared.limits.Limits.{Limits}
 use Rattle.drm_table.specs.declared.audits.AuditKind.TheVariants.{Client as OfClient}
+use Rattle.drm_index_array.specs.Chains.{chain_within}
 use Rattle.drm_index_array.specs.Least.{first_passing, least}
-use Rattle.drm_lists.specs.Chains.{chain_within}
-use Rattle.drm_lists.specs.Orders.{sorted_by}
+use Rattle.drm_index_array.specs.Orders.{sorted_by}
 use Rattle.drm_modes.specs.Numbers.{numbers_from}
 use Rattle.drm_table.specs.Answers.{answer_kind_row, told, answer_with, answer_kind_of}
 use Rattle.drm_table.specs.Audits.{kind_number, kind_of, kind_name}
@@ -73,7 +73,7 @@ planes_seen_and_brought_along-steps =
     []
 
 pub planes_seen_and_brought_along : Gives program_limits planes_seen_and_brought_along-steps
-unfolding first_passing least chain_within sorted_by numbers_from answer_kind_row told answer_with answer_kind_of kind_number kind_of kind_name are_in_range rule_of_number apart_of_number kind_row call_row call_with call_kind_of call_kind_of_word row_of call_number flags_of audit_rows audit_page dumb_pitch dumb_size buffer_size with_object with_stamp meaning with_client_capability changed swept after opening_checks opened closed ended with_spent with_authenticated with_master count_in answer_of reply results no_room run rows_of controls sees with_export_order prime_handle admission_checks checks verdict
+unfolding chain_within first_passing least sorted_by numbers_from answer_kind_row told answer_with answer_kind_of kind_number kind_of kind_name are_in_range rule_of_number apart_of_number kind_row call_row call_with call_kind_of call_kind_of_word row_of call_number flags_of audit_rows audit_page dumb_pitch dumb_size buffer_size with_object with_stamp meaning with_client_capability changed swept after opening_checks opened closed ended with_spent with_authenticated with_master count_in answer_of reply results no_room run rows_of controls sees with_export_order prime_handle admission_checks checks verdict
 planes_seen_and_brought_along = refl
 
 abbrev planes_brought_along_are_leased_out-steps : List (Event × Result Answer Apart)
@@ -86,7 +86,7 @@ planes_brought_along_are_leased_out-steps =
     []
 
 pub planes_brought_along_are_leased_out : Gives program_limits planes_brought_along_are_leased_out-steps
-unfolding first_passing least chain_within sorted_by numbers_from answer_kind_row told answer_with answer_kind_of kind_number kind_of kind_name are_in_range rule_of_number apart_of_number kind_row call_row call_with call_kind_of call_kind_of_word row_of call_number flags_of audit_rows audit_page dumb_pitch dumb_size buffer_size with_object with_stamp meaning with_client_capability changed swept after opening_checks opened closed ended with_spent with_authenticated with_master count_in answer_of reply results no_room run rows_of controls sees with_export_order prime_handle admission_checks checks verdict
+unfolding chain_within first_passing least sorted_by numbers_from answer_kind_row told answer_with answer_kind_of kind_number kind_of kind_name are_in_range rule_of_number apart_of_number kind_row call_row call_with call_kind_of call_kind_of_word row_of call_number flags_of audit_rows audit_page dumb_pitch dumb_size buffer_size with_object with_stamp meaning with_client_capability changed swept after opening_checks opened closed ended with_spent with_authenticated with_master count_in answer_of reply results no_room run rows_of controls sees with_export_order prime_handle admission_checks checks verdict
 planes_brought_along_are_leased_out = refl
 
 abbrev universal_planes_of_each_client-steps : List (Event × Result Answer Apart)
@@ -108,5 +108,5 @@ universal_planes_of_each_client-steps =
     []
 
 pub universal_planes_of_each_client : Gives program_limits universal_planes_of_each_client-steps
-unfolding first_passing least chain_within sorted_by numbers_from answer_kind_row told answer_with answer_kind_of kind_number kind_of kind_name are_in_range rule_of_number apart_of_number kind_row call_row call_with call_kind_of call_kind_of_word row_of call_number flags_of audit_rows audit_page dumb_pitch dumb_size buffer_size with_object with_stamp meaning with_client_capability changed swept after opening_checks opened closed ended with_spent with_authenticated with_master count_in answer_of reply results no_room run rows_of controls sees with_export_order prime_handle admission_checks checks verdict
+unfolding chain_within first_passing least sorted_by numbers_from answer_kind_row told answer_with answer_kind_of kind_number kind_of kind_name are_in_range rule_of_number apart_of_number kind_row call_row call_with call_kind_of call_kind_of_word row_of call_number flags_of audit_rows audit_page dumb_pitch dumb_size buffer_size with_object with_stamp meaning with_client_capability changed swept after opening_checks opened closed ended with_spent with_authenticated with_master count_in answer_of reply results no_room run rows_of controls sees with_export_order prime_handle admission_checks checks verdict
 universal_planes_of_each_client = refl

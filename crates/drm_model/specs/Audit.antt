@@ -1,7 +1,7 @@
 -- AUDIT: the rows of a kind, in pages (all of it is this project's own).
 use Rattle.std.specs.Prelude.{ℕ, ◌+◌, ◌==◌, nat_lt, nat_le, Bool, false, not, ◌&&◌, ◌||◌, List, [], ◌∷◌, length, Option, unwrap_or, map, filter, take, drop, if◌then◌else◌}
 use Rattle.std.specs.Option.{option_map_or}
-use Rattle.drm_lists.specs.Orders.{sorted_by}
+use Rattle.drm_index_array.specs.Orders.{sorted_by}
 use Rattle.drm_table.specs.declared.answers.Answer.TheVariants as answers
 use Rattle.drm_table.specs.declared.audits.AuditKind.{AuditKind}
 use Rattle.drm_table.specs.declared.audits.AuditKind.TheVariants.{Client, Master, Object, Name, Token, Hold, Grant, Framebuffer, Shown, Device}

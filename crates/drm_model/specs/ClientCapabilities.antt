@@ -1,6 +1,6 @@
 -- What a client can turn on and off (drm-uapi, client capabilities).
 use Rattle.std.specs.Prelude.{ℕ, ◌==◌, Bool, false, List, [], ◌∷◌, if◌then◌else◌}
-use Rattle.drm_lists.specs.Numbers.{is_among}
+use Rattle.drm_index_array.specs.Numbers.{is_among}
 
 -- the capabilities of a client, each on or off
 pub record ClientCapabilities : Type 0 where

@@ -2,7 +2,7 @@
 -- authentication). That a client loses its magic with a new master is this project's own.
 use Rattle.std.specs.Prelude.{ℕ, ◌==◌, Bool, true, false, not, ◌&&◌, ◌||◌, List, [], ◌∷◌, ◌++◌, Option, None, Some, unwrap_or, find, map, filter, if◌then◌else◌}
 use Rattle.std.specs.Option.{is_some, is_none, option_map, option_or}
-use Rattle.drm_lists.specs.Numbers.{is_among}
+use Rattle.drm_index_array.specs.Numbers.{is_among}
 use Rattle.drm_table.specs.declared.answers.Answer.TheVariants.{Number}
 use Rattle.drm_table.specs.declared.rules.Rule.TheVariants.{NoMagic, MasterPerm, MasterBusy, NotCurrent, IsLessee}
 use Rattle.drm_table.specs.Permit.{check}

@@ -1,8 +1,8 @@
 -- Masters, their chains of lessors, and who is current (drm(7), masters; drm-uapi, leases).
 use Rattle.std.specs.Prelude.{ℕ, ◌==◌, Bool, false, ◌&&◌, List, Option, None, Some, find}
 use Rattle.std.specs.Option.{is_some, option_and_then}
-use Rattle.drm_lists.specs.Chains as chains
-use Rattle.drm_lists.specs.Chains.{top_of}
+use Rattle.drm_index_array.specs.Chains as chains
+use Rattle.drm_index_array.specs.Chains.{top_of}
 use Rattle.drm_model.specs.Rows.{Rows, MasterRow, ClientRow, client_row}
 use Rattle.drm_table.specs.declared.permits.Standing.{Standing}
 

@@ -1,7 +1,7 @@
 -- Numbers and how they are allocated (the kernel's IDR; the limits are own).
 use Rattle.std.specs.Prelude.{ℕ, ◌+◌, nat_le, Bool, List, Option}
 use Rattle.std.specs.Option.{option_or}
-use Rattle.drm_lists.specs.Orders.{sorted_by}
+use Rattle.drm_index_array.specs.Orders.{sorted_by}
 use Rattle.drm_index_array.specs.Least.{least}
 
 -- the same numbers, each not below the one before

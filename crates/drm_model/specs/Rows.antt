@@ -2,7 +2,7 @@
 -- an object is named by its step number, the number of the step that created it (own).
 use Rattle.std.specs.Prelude.{ℕ, ◌+◌, ◌==◌, Bool, false, not, ◌&&◌, nat_lt, List, [], ◌∷◌, ◌++◌, length, Option, None, Some, unwrap_or, find, map, filter}
 use Rattle.std.specs.Option.{is_some, option_map, option_map_or}
-use Rattle.drm_lists.specs.Numbers.{is_among}
+use Rattle.drm_index_array.specs.Numbers.{is_among}
 use Rattle.drm_table.specs.declared.limits.Limits.{Limits}
 use Rattle.drm_index_array.specs.Least.{least}
 use Rattle.drm_modes.specs.Topology.{Topology}

@@ -4,7 +4,7 @@
 use Rattle.std.specs.Prelude.{ℕ, ◌==◌, Bool, not, ◌&&◌, List, [], ◌∷◌, ◌++◌, Option, None, Some, unwrap_or, find, map, filter, if◌then◌else◌}
 use Rattle.std.specs.List.{filter_map}
 use Rattle.std.specs.Option.{is_some, option_map, option_and_then, option_or}
-use Rattle.drm_lists.specs.Numbers.{is_among}
+use Rattle.drm_index_array.specs.Numbers.{is_among}
 use Rattle.drm_table.specs.declared.answers.Answer.TheVariants.{Number, Buffer}
 use Rattle.drm_table.specs.declared.rules.Rule.TheVariants.{NoHandle, NoName, NoToken, Full}
 use Rattle.drm_table.specs.Permit.{check}

@@ -1,7 +1,7 @@
 -- What is in the list of what CRTCs and planes show (drm-uapi, kernel mode setting).
 use Rattle.std.specs.Prelude.{◌≡◌, ◌==◌, true, false}
 use Rattle.std.specs.List.{AllByRecursion}
-use Rattle.drm_lists.specs.Orders.{InOrder}
+use Rattle.drm_index_array.specs.Orders.{InOrder}
 use Rattle.drm_model.specs.Rows.{Rows, ShownRow, is_framebuffer}
 
 -- the rows are of two CRTCs or planes

@@ -1,7 +1,7 @@
 -- Step numbers: the numbers of the steps that made clients, masters and objects (own).
 use Rattle.std.specs.Prelude.{ℕ, ◌*◌, ◌<◌, ◌≤◌, List, IfSome}
 use Rattle.std.specs.List.{AllByRecursion}
-use Rattle.drm_lists.specs.Orders.{InOrder}
+use Rattle.drm_index_array.specs.Orders.{InOrder}
 use Rattle.drm_model.specs.Parts.{Part, Grants, count_in}
 use Rattle.drm_model.specs.Rows.{Rows, ClientRow, MasterRow, ObjectRow, GrantRow}
 

@@ -4,10 +4,10 @@ use Rattle.std.specs.Prelude.{nat_le}
 use Rattle.std.specs.List.{list_all, zip, AllByRecursion}
 use Rattle.std.proofs.lemmas.Bool.{false≢true, eqb-true, and_parts}
 use Rattle.std.proofs.lemmas.Bool.Decides.{nat_tests}
-use Rattle.drm_lists.proofs.Lists.{all_filter}
-use Rattle.drm_lists.proofs.Rising.{each_is_there}
+use Rattle.drm_index_array.proofs.Lists.{all_filter}
+use Rattle.drm_index_array.proofs.Rising.{each_is_there}
 use Rattle.drm_index_array.specs.Rows.{InOrder}
-use Rattle.drm_lists.specs.Numbers.{is_among}
+use Rattle.drm_index_array.specs.Numbers.{is_among}
 use Rattle.drm_modes.specs.Numbers.{numbers_from}
 use Rattle.drm_modes.specs.declared.kinds.Kind.{Kind}
 use Rattle.drm_modes.specs.declared.kinds.Kind.TheVariants.{Crtc, Plane, Encoder, Connector}

@@ -4,8 +4,8 @@ use Rattle.std.proofs.lemmas.Bool.{false≢true, eqb-true}
 use Rattle.std.proofs.lemmas.List.{length-map, length-set, length-replicate}
 use Rattle.std.specs.List.{AllByRecursion, list_any}
 use Rattle.std.specs.FinMap as fin
-use Rattle.drm_lists.proofs.Lists.{all_weaker, all_mapped}
-use Rattle.drm_lists.proofs.FoundInLists.{is_some-find, is_some-map}
+use Rattle.drm_index_array.proofs.Lists.{all_weaker, all_mapped}
+use Rattle.drm_index_array.proofs.FoundInLists.{is_some-find, is_some-map}
 use Rattle.drm_index_array.specs.Least.{least}
 use Rattle.drm_index_array.proofs.MarkedLemmas.{get-insert, get-remove}
 use Rattle.drm_id_alloc.specs.Table.{Table, empty_table, is_free as is_free_in, least_free, with_entry, without_entry}

@@ -4,7 +4,7 @@
 use Rattle.std.specs.Prelude.{ℕ, ◌==◌, nat_lt, Bool, not, ◌&&◌, ◌||◌, if◌then◌else◌, List, [], ◌∷◌, filter}
 use Rattle.std.specs.List.{list_any, list_all}
 use Rattle.std.specs.Option.{is_some}
-use Rattle.drm_lists.specs.Numbers.{count}
+use Rattle.drm_index_array.specs.Numbers.{count}
 use Rattle.drm_table.specs.declared.rules.Rule.TheVariants.{SubLease, NoModeObject, NotLeasable, Repeated, LeaseShape, LeasedOut, Full}
 use Rattle.drm_table.specs.Permit.{Check, check}
 use Rattle.drm_modes.specs.Topology.{Topology, kind_of, is_crtc, is_plane, is_encoder, is_connector, is_primary_or_cursor, planes_of}

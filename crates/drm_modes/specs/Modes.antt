@@ -1,7 +1,7 @@
 -- Framebuffers, and what CRTCs and planes show (drm-uapi, mode setting), as flat lists.
 use Rattle.std.specs.Prelude.{◌≡◌, ℕ, ◌+◌, ◌-◌, ◌==◌, ◌≤◌, Bool, true, not, ◌&&◌, ◌||◌, nat_lt, if◌then◌else◌, List, [], ◌∷◌, map, filter, length, replicate, slice_get, slice_index_or, slice_set, Option, None, option_map}
 use Rattle.std.specs.List.{AllByRecursion, list_any}
-use Rattle.drm_lists.specs.Numbers.{is_among}
+use Rattle.drm_index_array.specs.Numbers.{is_among}
 use Rattle.drm_index_array.specs.Least.{least}
 use Rattle.drm_index_array.specs.Rows.{placed, InOrder}
 use Rattle.drm_modes.specs.Topology.{Topology, IsTopology, object_count}

@@ -16,7 +16,7 @@
 /// let second = modes.addfb(1, shape, ObjectKey::from_number(7));
 /// assert!(rt; second == Err(AddFbFault::Full));
 /// ```
-#[derive(Clone, Copy, PartialEq, Eq, Debug)]
+#[derive(Clone, Copy, PartialEq, Debug)]
 pub enum AddFbFault {
     /// No id is free.
     Full,

@@ -10,7 +10,7 @@
 /// let Some(topology) = Topology::new(2, &[1, 2], &[3, 2], &[5, 6]) else { return };
 /// assert!(rt; topology.kind(1) == Some(Kind::Crtc) && topology.kind(8) == Some(Kind::Connector));
 /// ```
-#[derive(Clone, Copy, PartialEq, Eq, Debug)]
+#[derive(Clone, Copy, PartialEq, Debug)]
 pub enum Kind {
     /// An object that scans out a framebuffer.
     Crtc,
@@ -31,7 +31,7 @@ pub enum Kind {
 ///
 /// let kind = PlaneKind::Primary(1);
 /// ```
-#[derive(Clone, Copy, PartialEq, Eq, Debug, Default)]
+#[derive(Clone, Copy, PartialEq, Debug, Default)]
 pub enum PlaneKind {
     /// A further picture on a CRTC. Clients see it with universal planes on and off.
     #[default]

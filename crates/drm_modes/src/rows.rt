@@ -11,7 +11,7 @@ use drm_gem::ObjectKey;
 ///
 /// let shape = Shape { width: 640, height: 480, pitch: 2560, bpp: 32 };
 /// ```
-#[derive(Clone, Copy, PartialEq, Eq, Debug)]
+#[derive(Clone, Copy, PartialEq, Debug)]
 pub struct Shape {
     /// The width in pixels.
     pub width: u32,
@@ -24,7 +24,7 @@ pub struct Shape {
 }
 
 /// A framebuffer: an object whose pixels can be shown (drm-uapi, mode setting).
-#[derive(Clone, Copy, PartialEq, Eq, Debug)]
+#[derive(Clone, Copy, PartialEq, Debug)]
 pub struct Framebuffer {
     /// Its id, above those of the fixed mode objects.
     pub framebuffer: u32,
@@ -37,7 +37,7 @@ pub struct Framebuffer {
 }
 
 /// A framebuffer without its id (drm-uapi, mode setting).
-#[derive(Clone, Copy, PartialEq, Eq, Debug)]
+#[derive(Clone, Copy, PartialEq, Debug)]
 pub struct Fb {
     /// The client that created it. Only it may remove it.
     pub client: u32,
@@ -64,7 +64,7 @@ pub struct Fb {
 /// let row = Framebuffer { framebuffer, client: 1, shape, object };
 /// assert!(rt; modes.nth(8, 0) == Some(ModeRow::Framebuffer(row)));
 /// ```
-#[derive(Clone, Copy, PartialEq, Eq, Debug)]
+#[derive(Clone, Copy, PartialEq, Debug)]
 pub enum ModeRow {
     /// A row of kind 8.
     Framebuffer(Framebuffer),
@@ -91,7 +91,7 @@ pub enum ModeRow {
 /// }
 /// assert!(rt; modes.nth_shown(0) == Some(Shown { engine: 1, framebuffer }));
 /// ```
-#[derive(Clone, Copy, PartialEq, Eq, Debug)]
+#[derive(Clone, Copy, PartialEq, Debug)]
 pub struct Shown {
     /// The id of the CRTC or plane.
     pub engine: u32,

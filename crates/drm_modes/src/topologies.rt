@@ -8,7 +8,7 @@ ghost use Rattle.std.specs.List.{list_all};
 ghost use Rattle.drm_modes.specs.Topology as fixed;
 ghost use Rattle.drm_modes.specs.Topology.{IsTopology, AreCrtcs};
 ghost use Rattle.drm_modes.specs.Numbers.{numbers_from};
-ghost use Rattle.drm_lists.specs.Numbers.{is_among};
+ghost use Rattle.drm_index_array.specs.Numbers.{is_among};
 ghost use Rattle.drm_modes.specs.Topologies.{topology_of, topology_with};
 ghost use Rattle.drm_modes.specs.Modes.{scanout_count};
 

@@ -1,7 +1,7 @@
 -- A key of a master is that of one that is there.
 use Rattle.std.proofs.Common.{◌≡◌, ℕ, true, List, find, sym, ap, ◌∙◌}
 use Rattle.std.specs.Option.{is_some}
-use Rattle.drm_lists.proofs.FoundInLists.{is_some-map}
+use Rattle.drm_index_array.proofs.FoundInLists.{is_some-map}
 use Rattle.drm_masters.specs.declared.rows.Master.{Master}
 use Rattle.drm_masters.specs.Masters.{is_key, is_there, IsKeyOf}
 

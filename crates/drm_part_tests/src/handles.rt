@@ -5,7 +5,7 @@ ghost use Rattle.drm_files.specs.Files.{is_open_client};
 
 use drm_files::{FileFault, FileFlags, Files};
 use drm_gem::ObjectKey;
-use drm_test_cases::{Call, Told, check};
+use drm_test_support::{Call, Told, check};
 use std::alloc::Global;
 use std::process::Abort;
 

@@ -26,7 +26,7 @@ pub(crate) enum Ask {
 }
 
 /// The answer of a call. `Unasked` is for a call that may not be made.
-#[derive(Clone, Copy, PartialEq, Eq, Debug)]
+#[derive(Clone, Copy, PartialEq, Debug)]
 pub(crate) enum Told {
     Unasked,
     Nothing,

@@ -4,7 +4,7 @@ ghost use Rattle.std.specs.Prelude.{◌≡◌, ◌==◌, true, false, IfSome};
 ghost use Rattle.drm_gem.specs.Objects.{IsUnusedBirth};
 
 use drm_gem::{CreateFault, Dead, Object, ObjectKey, Objects};
-use drm_test_cases::{Call, Told, check};
+use drm_test_support::{Call, Told, check};
 
 /// A call. An object is named by the number of its key.
 #[derive(Clone, Copy)]

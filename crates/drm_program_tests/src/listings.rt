@@ -5,7 +5,7 @@ use drm_device::Device;
 use drm_runs::test_topology;
 use drm_server::{ListEnd, list_audit};
 use drm_table::{Call, Event, Limits, Opening};
-use drm_test_streams::{Cut, sink_of};
+use drm_test_support::{Cut, sink_of};
 use std::process::Abort;
 use std::test::Fail;
 

@@ -4,7 +4,7 @@ use Rattle.std.specs.List.{list_all}
 use Rattle.std.proofs.lemmas.Bool.{eqb-true, false≢true}
 use Rattle.std.proofs.lemmas.List.{take_more}
 use Rattle.std.proofs.lemmas.List.Folds.{list_all-append, list_all_more}
-use Rattle.drm_lists.specs.Numbers.{count, is_among}
+use Rattle.drm_index_array.specs.Numbers.{count, is_among}
 use Rattle.drm_modes.specs.LeaseRules.{stands_once}
 use Rattle.drm_model.proofs.Once.{each_once}
 use Rattle.drm_refusals.specs.Kinds.{Shows, is_id, is_mode_object}

@@ -8,10 +8,10 @@ use Rattle.drm_modes.specs.declared.kinds.Kind.TheVariants.{Encoder}
 use Rattle.drm_history.specs.History.{AnsweredEvent, next_number}
 use Rattle.drm_history.specs.Holds.{Has}
 use Rattle.drm_history.specs.Steps.{Name, takes}
-use Rattle.drm_authority.specs.Lessees.{granted}
-use Rattle.drm_authority.specs.Magics.{magic_in}
-use Rattle.drm_authority.specs.MasterState.{master_in}
-use Rattle.drm_authority.specs.Shown.{is_universal_in}
+use Rattle.drm_history.specs.Lessees.{granted}
+use Rattle.drm_history.specs.Magics.{magic_in}
+use Rattle.drm_history.specs.MasterState.{master_in}
+use Rattle.drm_history.specs.Shown.{is_universal_in}
 use Rattle.drm_trails.specs.Handles.{is_given_at, is_held_since}
 use Rattle.drm_rights.specs.Leases.{lease_of_token, leases_in}
 use Rattle.drm_rights.specs.Ledgers.{authentication_of, authentications_in, controls_in}

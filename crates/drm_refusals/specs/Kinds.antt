@@ -20,9 +20,9 @@ use Rattle.drm_model.specs.Buffers.{bytes_per_pixel, is_buffer_size, is_dumb_sha
 use Rattle.drm_model.specs.Rows.{is_option}
 use Rattle.drm_history.specs.History.{AnsweredEvent, next_number}
 use Rattle.drm_history.specs.Holds.{Has as HasHandle}
-use Rattle.drm_authority.specs.Lessees.{granted}
-use Rattle.drm_authority.specs.MasterState.{master_in}
-use Rattle.drm_authority.specs.Shown.{is_universal_in}
+use Rattle.drm_history.specs.Lessees.{granted}
+use Rattle.drm_history.specs.MasterState.{master_in}
+use Rattle.drm_history.specs.Shown.{is_universal_in}
 use Rattle.drm_rights.specs.Leases.{leases_in}
 use Rattle.drm_rights.specs.Ledgers.{controls_in}
 use Rattle.drm_rights.specs.declared.notes.Lease.{Lease}

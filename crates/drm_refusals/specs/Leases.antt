@@ -1,8 +1,8 @@
 -- The lease that a lessee id names (own).
 use Rattle.std.specs.Prelude.{ℕ, List, Option, option_and_then}
 use Rattle.drm_history.specs.History.{AnsweredEvent}
-use Rattle.drm_authority.specs.Lessees.{top_in}
-use Rattle.drm_authority.specs.MasterState.{master_in}
+use Rattle.drm_history.specs.Lessees.{top_in}
+use Rattle.drm_history.specs.MasterState.{master_in}
 use Rattle.drm_rights.specs.Leases.{lease_of_id, leases_in}
 use Rattle.drm_rights.specs.declared.notes.Lease.{Lease}
 

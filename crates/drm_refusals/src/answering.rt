@@ -24,7 +24,7 @@ use drm_table::{Answer, Apart, Event, Limits};
 use std::alloc::{AllocError, Global};
 
 /// An answered line of a script (own).
-#[derive(PartialEq, Eq, Debug, Drop)]
+#[derive(PartialEq, Debug, Drop)]
 pub struct Line {
     /// The number of the line, from 1.
     pub number: u64,

@@ -7,7 +7,7 @@ ghost use Rattle.drm_table.specs.declared.events.Event.TheVariants as events;
 ghost use Rattle.drm_table.specs.declared.rules.Rule.TheVariants as rules;
 ghost use Rattle.drm_refusals.specs.declared.facts.Fact.{Fact};
 ghost use Rattle.drm_refusals.specs.declared.facts.Fact.TheVariants as variants;
-ghost use Rattle.drm_authority.specs.Magics.{magic_in};
+ghost use Rattle.drm_history.specs.Magics.{magic_in};
 ghost use Rattle.drm_refusals.specs.Facts as facts;
 ghost use Rattle.drm_refusals.specs.Kinds as kinds;
 

@@ -15,7 +15,7 @@ use drm_table::CallKind;
 /// let fact = Fact::Client(ClientFact::NeverOpened { client: 1 });
 /// assert!(rt; fact == Fact::Client(ClientFact::NeverOpened { client: 1 }));
 /// ```
-#[derive(PartialEq, Eq, Debug, Drop)]
+#[derive(PartialEq, Debug, Drop)]
 pub enum Fact {
     Client(ClientFact),
     Handle(HandleFact),
@@ -31,7 +31,7 @@ pub enum Fact {
 }
 
 /// A client that is not open (own).
-#[derive(Clone, Copy, PartialEq, Eq, Debug)]
+#[derive(Clone, Copy, PartialEq, Debug)]
 pub enum ClientFact {
     /// The step closed the client.
     Closed { client: u64, step: u64 },
@@ -49,7 +49,7 @@ pub enum ClientFact {
 /// let fact = HandleFact::NeverGiven { client: 1, handle: 5 };
 /// assert!(rt; fact == HandleFact::NeverGiven { client: 1, handle: 5 });
 /// ```
-#[derive(PartialEq, Eq, Debug, Drop)]
+#[derive(PartialEq, Debug, Drop)]
 pub enum HandleFact {
     /// The client closed the handle, and no later step assigned it.
     GaveBack { client: u64, handle: u32, by: At },
@@ -70,7 +70,7 @@ pub enum HandleFact {
 /// let fact = PublishedFact::Never { key: Key::Name(1) };
 /// assert!(rt; fact != PublishedFact::Never { key: Key::Token(1) });
 /// ```
-#[derive(Clone, Copy, PartialEq, Eq, Debug)]
+#[derive(Clone, Copy, PartialEq, Debug)]
 pub enum PublishedFact {
     /// No step published anything under the key.
     Never {
@@ -110,7 +110,7 @@ pub enum PublishedFact {
 /// let fact = MagicFact::Unknown { master: 1, magic: 7 };
 /// assert!(rt; fact != MagicFact::Unknown { master: 1, magic: 8 });
 /// ```
-#[derive(Clone, Copy, PartialEq, Eq, Debug)]
+#[derive(Clone, Copy, PartialEq, Debug)]
 pub enum MagicFact {
     /// The client that last received the master's magic was closed by the step.
     OfClosed {
@@ -149,7 +149,7 @@ pub enum MagicFact {
 /// let fact = LeaseFact::TokenUnknown { token: 3 };
 /// assert!(rt; fact != LeaseFact::TokenUsed { token: 3 });
 /// ```
-#[derive(Clone, Copy, PartialEq, Eq, Debug)]
+#[derive(Clone, Copy, PartialEq, Debug)]
 pub enum LeaseFact {
     /// The client has universal planes on.
     LacksPlane {
@@ -192,7 +192,7 @@ pub enum LeaseFact {
 /// let fact = ModeObjectFact::Nothing { id: 9, count: 8 };
 /// assert!(rt; fact != ModeObjectFact::Encoder { id: 9 });
 /// ```
-#[derive(Clone, Copy, PartialEq, Eq, Debug)]
+#[derive(Clone, Copy, PartialEq, Debug)]
 pub enum ModeObjectFact {
     /// No mode object has the id. The ids are 1 to `count`.
     Nothing {
@@ -238,7 +238,7 @@ pub enum ModeObjectFact {
 /// let quantity = Quantity::Width;
 /// assert!(rt; quantity != Quantity::Height);
 /// ```
-#[derive(Clone, Copy, PartialEq, Eq, Debug)]
+#[derive(Clone, Copy, PartialEq, Debug)]
 pub enum Quantity {
     /// The size of a buffer in bytes.
     Size,
@@ -260,7 +260,7 @@ pub enum Quantity {
 /// let fact = SizeFact::ShortPitch { pitch: 4, least: 8 };
 /// assert!(rt; fact != SizeFact::ShortPitch { pitch: 4, least: 12 });
 /// ```
-#[derive(Clone, Copy, PartialEq, Eq, Debug)]
+#[derive(Clone, Copy, PartialEq, Debug)]
 pub enum SizeFact {
     /// The number is 0, or greater than `most`.
     OutOfRange {
@@ -293,7 +293,7 @@ pub enum SizeFact {
 /// let fact = LimitFact::Names { most: 65_535 };
 /// assert!(rt; fact != LimitFact::Tokens { most: 65_535 });
 /// ```
-#[derive(Clone, Copy, PartialEq, Eq, Debug)]
+#[derive(Clone, Copy, PartialEq, Debug)]
 pub enum LimitFact {
     Clients { count: u64, most: u32 },
     /// The client has this number of handles, which is at least the limit.
@@ -317,7 +317,7 @@ pub enum LimitFact {
 /// let fact = RequestFact::Repeated { id: 7 };
 /// assert!(rt; fact != RequestFact::LacksCrtc);
 /// ```
-#[derive(Clone, Copy, PartialEq, Eq, Debug)]
+#[derive(Clone, Copy, PartialEq, Debug)]
 pub enum RequestFact {
     /// No client was opened by the caller's label.
     NoCaller,

@@ -2,13 +2,13 @@
 
 ghost use Rattle.std.specs.Prelude.{◌≡◌, Bool, true, false, not, ◌||◌, take, All, IfNone, IfOk, IfSome};
 ghost use Rattle.std.specs.List.{list_all, list_any};
-ghost use Rattle.drm_lists.specs.Numbers.{is_among};
+ghost use Rattle.drm_index_array.specs.Numbers.{is_among};
 ghost use Rattle.drm_table.specs.declared.rules.Rule.TheVariants as rules;
 ghost use Rattle.drm_modes.specs.LeaseRules.{is_lease, stands_once};
 ghost use Rattle.drm_modes.specs.Topology.{is_of_kind, is_plane, kind_of};
 ghost use Rattle.drm_model.specs.Rows.{is_option};
-ghost use Rattle.drm_authority.specs.Lessees.{granted};
-ghost use Rattle.drm_authority.specs.Shown.{is_universal_in};
+ghost use Rattle.drm_history.specs.Lessees.{granted};
+ghost use Rattle.drm_history.specs.Shown.{is_universal_in};
 ghost use Rattle.drm_rights.specs.Leases as lending;
 ghost use Rattle.drm_rights.specs.Leases.{leases_in};
 ghost use Rattle.drm_refusals.specs.Facts as facts;

@@ -6,7 +6,7 @@ ghost use Rattle.drm_table.specs.declared.rules.Rule.TheVariants as rules;
 ghost use Rattle.drm_modes.specs.LeaseRules.{is_shown};
 ghost use Rattle.drm_modes.specs.Topology.{encoder_of, is_encoder, is_of_kind, is_route};
 ghost use Rattle.drm_modes.specs.declared.kinds.Kind.TheVariants.{Connector, Crtc, Plane};
-ghost use Rattle.drm_authority.specs.Shown.{is_universal_in};
+ghost use Rattle.drm_history.specs.Shown.{is_universal_in};
 ghost use Rattle.drm_rights.specs.Ledgers.{controls_in};
 ghost use Rattle.drm_refusals.specs.Facts as facts;
 ghost use Rattle.drm_refusals.specs.Kinds as kinds;

@@ -2,14 +2,14 @@
 use Rattle.std.proofs.Common.{◌≡◌, ℕ, ◌==◌, Bool, true, false, cond, not, ◌&&◌, List, [], ◌∷◌, Option, None, Some, find, option_map, option_to_list, refl, sym, ◌∙◌, ap, arith, eq-eqb}
 use Rattle.std.specs.Option.{option_or}
 use Rattle.std.proofs.lemmas.Bool.{eqb-true}
-use Rattle.drm_lists.proofs.Numbers.{less-differ, flipped}
+use Rattle.drm_index_array.proofs.Numbers.{less-differ, flipped}
 use Rattle.drm_model.specs.Rows.{is_option}
 use Rattle.drm_history.specs.History.{AnsweredEvent, next_number}
-use Rattle.drm_authority.specs.Effects as told
-use Rattle.drm_authority.specs.Effects.{effect}
-use Rattle.drm_authority.specs.MasterState as standings
-use Rattle.drm_authority.specs.MasterState.{lease_in, master_state}
-use Rattle.drm_authority.proofs.Falls.{lease_up}
+use Rattle.drm_history.specs.Effects as told
+use Rattle.drm_history.specs.Effects.{effect}
+use Rattle.drm_history.specs.MasterState as standings
+use Rattle.drm_history.specs.MasterState.{lease_in, master_state}
+use Rattle.drm_history.proofs.Falls.{lease_up}
 use Rattle.drm_rights.specs.Ledgers.{is_redemption, new_master_state, noted, opened, redeemed_by, lease_client_in, standings_in}
 use Rattle.drm_rights.specs.declared.notes.MasterState.{MasterState}
 use Rattle.std.proofs.lemmas.List.Folds.{find-append}

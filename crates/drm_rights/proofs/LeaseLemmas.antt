@@ -6,24 +6,24 @@ use Rattle.std.specs.Option.{is_some, option_or}
 use Rattle.std.proofs.lemmas.Bool.{eqb-true}
 use Rattle.std.proofs.lemmas.Bool.Decides.{nat_tests}
 use Rattle.std.proofs.lemmas.List.Folds.{find-append}
-use Rattle.drm_lists.specs.Chains.{is_under}
-use Rattle.drm_lists.proofs.Lists.{all_append, all_weaker}
-use Rattle.drm_lists.proofs.FoundInLists.{find-same}
-use Rattle.drm_lists.proofs.Orders.{in_order_append}
-use Rattle.drm_lists.proofs.Chains.{IsFalling, under_none}
-use Rattle.drm_lists.proofs.Numbers.{less-differ, flipped}
+use Rattle.drm_index_array.specs.Chains.{is_under}
+use Rattle.drm_index_array.proofs.Lists.{all_append, all_weaker}
+use Rattle.drm_index_array.proofs.FoundInLists.{find-same}
+use Rattle.drm_index_array.proofs.Orders.{in_order_append}
+use Rattle.drm_index_array.proofs.Chains.{IsFalling, under_none}
+use Rattle.drm_index_array.proofs.Numbers.{less-differ, flipped}
 use Rattle.drm_history.specs.History.{AnsweredEvent, next_number}
-use Rattle.drm_authority.specs.Effects as told
-use Rattle.drm_authority.specs.Effects.{effect}
-use Rattle.drm_authority.specs.MasterState.{master_state, master_in, caller_master_in, lease_in, leased_by}
-use Rattle.drm_authority.specs.Lessees.{lessor_by, lessor_in, top_in, is_under_in, lessee_by, lessee_in, ended_by, is_under_any, ends, has_ended}
-use Rattle.drm_authority.specs.Shown.{is_universal_in}
-use Rattle.drm_authority.proofs.Falls.{UpTo, master_up, lessee_born, under_still}
+use Rattle.drm_history.specs.Effects as told
+use Rattle.drm_history.specs.Effects.{effect}
+use Rattle.drm_history.specs.MasterState.{master_state, master_in, caller_master_in, lease_in, leased_by}
+use Rattle.drm_history.specs.Lessees.{lessor_by, lessor_in, top_in, is_under_in, lessee_by, lessee_in, ended_by, is_under_any, ends, has_ended}
+use Rattle.drm_history.specs.Shown.{is_universal_in}
+use Rattle.drm_history.proofs.Falls.{UpTo, master_up, lessee_born, under_still}
 use Rattle.drm_rights.specs.Leases.{lease_at, lease_of_token, lease_of_id, if_older, lessor_noted, master_of_lease, is_ended_by, new_lease, leases_in, end_with, ends_in, ended_at, LeasesRise, EndsRise}
 use Rattle.drm_rights.specs.declared.notes.Lease.{Lease}
 use Rattle.drm_rights.specs.declared.notes.End.{End}
 use Rattle.drm_trails.proofs.NoteLemmas.{find-newest, append-none}
-use Rattle.drm_authority.proofs.SeesNothing.{ended_up}
+use Rattle.drm_history.proofs.SeesNothing.{ended_up}
 
 abbrev pub note_of : List AnsweredEvent → ℕ → ℕ → ℕ → Lease
 note_of past c lessee token =

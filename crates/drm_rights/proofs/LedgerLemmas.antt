@@ -3,15 +3,15 @@ use Rattle.std.specs.Prelude.{if◌then◌else◌}
 use Rattle.std.proofs.Common.{◌≡◌, ℕ, ◌==◌, Bool, true, false, cond, ◌&&◌, ◌||◌, List, [], ◌∷◌, ◌++◌, Option, None, Some, option_map, option_and_then, option_to_list, refl, sym, ◌∙◌, ap, subst}
 use Rattle.std.specs.Option.{option_map_or}
 use Rattle.drm_history.specs.History.{AnsweredEvent, next_number}
-use Rattle.drm_authority.specs.Effects as told
-use Rattle.drm_authority.specs.Effects.{effect}
-use Rattle.drm_authority.specs.MasterState as standings
-use Rattle.drm_authority.specs.MasterState.{owner_in, is_master_in, master_in, caller_master_in, lease_in, put, master_state, transition, with_primary, with_set}
-use Rattle.drm_authority.specs.Lessees.{ended_by}
-use Rattle.drm_authority.specs.Magics.{magic_in, magic_by, is_root_in, is_root_by, is_named_in, is_named_by}
+use Rattle.drm_history.specs.Effects as told
+use Rattle.drm_history.specs.Effects.{effect}
+use Rattle.drm_history.specs.MasterState as standings
+use Rattle.drm_history.specs.MasterState.{owner_in, is_master_in, master_in, caller_master_in, lease_in, put, master_state, transition, with_primary, with_set}
+use Rattle.drm_history.specs.Lessees.{ended_by}
+use Rattle.drm_history.specs.Magics.{magic_in, magic_by, is_root_in, is_root_by, is_named_in, is_named_by}
 use Rattle.drm_model.specs.ClientCapabilities.{ClientCapabilities, cap_universal_planes, opening_capabilities, with_capability}
-use Rattle.drm_authority.specs.Shown as shown
-use Rattle.drm_authority.specs.Shown.{capabilities_by}
+use Rattle.drm_history.specs.Shown as shown
+use Rattle.drm_history.specs.Shown.{capabilities_by}
 use Rattle.drm_model.specs.Rows.{is_option}
 use Rattle.drm_rights.specs.Leases.{new_lease, leases_in, end_with, ends_in}
 use Rattle.drm_rights.specs.Ledgers.{IsLedger, master_state_of, magic_of, is_master_noted, master_noted, client_noted, is_named_noted, is_root_noted, capability_of, is_universal_noted, noted, opened, capable, new_master_state, new_magic, authenticated_by, new_authentication, new_root, new_capability, is_same_master, owner_since_in, standings_in, authentications_in, capabilities_in}

@@ -6,8 +6,8 @@ use Rattle.std.proofs.lemmas.Bool.{eqb-true}
 use Rattle.std.proofs.lemmas.Bool.Decides.{nat_tests}
 use Rattle.std.proofs.lemmas.List.{take_more}
 use Rattle.std.proofs.Math.Seq.{take-length}
-use Rattle.drm_lists.specs.Numbers.{is_among}
-use Rattle.drm_lists.proofs.Numbers.{less-differ, flipped}
+use Rattle.drm_index_array.specs.Numbers.{is_among}
+use Rattle.drm_index_array.proofs.Numbers.{less-differ, flipped}
 use Rattle.drm_modes.specs.PlaneKinds.{crtc_of_kind}
 use Rattle.drm_modes.specs.Topology.{Topology, first_plane, plane_ids, is_plane, planes_of}
 use Rattle.drm_modes.specs.declared.kinds.PlaneKind.{PlaneKind}
@@ -20,12 +20,12 @@ use Rattle.drm_table.specs.declared.events.Event.TheVariants.{Open, Ask, Close}
 use Rattle.drm_table.specs.declared.events.Opening.{Opening}
 use Rattle.drm_table.specs.declared.events.Opening.TheVariants.{Primary, Render, Lease as Redeemed}
 use Rattle.drm_history.specs.History.{AnsweredEvent, next_number}
-use Rattle.drm_authority.specs.Effects as told
-use Rattle.drm_authority.specs.Effects.{effect}
-use Rattle.drm_authority.specs.MasterState.{master_in}
-use Rattle.drm_authority.specs.Lessees.{lessor_in, ended_by, ends, has_ended, is_plane_of, is_controlled, is_lent, granted}
-use Rattle.drm_authority.specs.Shown.{is_universal_in}
-use Rattle.drm_authority.proofs.Falls.{UpTo, none_up, master_up, lessor_still}
+use Rattle.drm_history.specs.Effects as told
+use Rattle.drm_history.specs.Effects.{effect}
+use Rattle.drm_history.specs.MasterState.{master_in}
+use Rattle.drm_history.specs.Lessees.{lessor_in, ended_by, ends, has_ended, is_plane_of, is_controlled, is_lent, granted}
+use Rattle.drm_history.specs.Shown.{is_universal_in}
+use Rattle.drm_history.proofs.Falls.{UpTo, none_up, master_up, lessor_still}
 use Rattle.drm_trails.specs.Effects.{leased_by}
 use Rattle.drm_trails.specs.Steps.{entry_of, history_of}
 use Rattle.drm_rights.specs.Leases.{lease_at, if_older, new_lease, leases_in, ended_at, listed_by, listed_in, lent_in, is_ended_before, had_to_lend, comes_along, lent_by}
@@ -33,7 +33,7 @@ use Rattle.drm_trails.specs.declared.steps.Step.{Step}
 use Rattle.drm_rights.specs.declared.notes.Lease.{Lease}
 use Rattle.drm_trails.proofs.NoteLemmas.{append-none, among-filter}
 use Rattle.drm_trails.proofs.HistoryLemmas.{followed_by-append, next_number-take}
-use Rattle.drm_authority.proofs.SeesNothing.{ended_up}
+use Rattle.drm_history.proofs.SeesNothing.{ended_up}
 use Rattle.drm_rights.proofs.LeaseLemmas.{note_of, at-newest, ends_none, not_ended, has_ended_at, lessor_told}
 use Rattle.drm_trails.proofs.HandleLemmas.{and_true}
 

@@ -1,16 +1,16 @@
 -- The entries of a ledger for leases and their ends, and their values by a history (drm-uapi, leases).
 use Rattle.std.specs.Prelude.{ℕ, ◌<◌, ◌==◌, Bool, false, not, ◌&&◌, ◌||◌, nat_lt, List, [], ◌∷◌, ◌++◌, Option, None, Some, find, reverse, option_and_then, option_map, option_to_list, if◌then◌else◌}
 use Rattle.std.specs.Option.{is_some, option_map_or, option_or}
-use Rattle.drm_lists.specs.Numbers.{is_among}
-use Rattle.drm_lists.specs.Chains.{is_under}
-use Rattle.drm_lists.specs.Orders.{InOrder}
+use Rattle.drm_index_array.specs.Numbers.{is_among}
+use Rattle.drm_index_array.specs.Chains.{is_under}
+use Rattle.drm_index_array.specs.Orders.{InOrder}
 use Rattle.drm_modes.specs.Topology.{Topology}
 use Rattle.drm_history.specs.History.{AnsweredEvent, next_number}
-use Rattle.drm_authority.specs.Effects as told
-use Rattle.drm_authority.specs.Effects.{effect}
-use Rattle.drm_authority.specs.MasterState.{master_in, caller_master_in}
-use Rattle.drm_authority.specs.Lessees.{top_in, lessor_in, ended_by, ends, is_plane_of, is_lent, granted}
-use Rattle.drm_authority.specs.Shown.{is_universal_in}
+use Rattle.drm_history.specs.Effects as told
+use Rattle.drm_history.specs.Effects.{effect}
+use Rattle.drm_history.specs.MasterState.{master_in, caller_master_in}
+use Rattle.drm_history.specs.Lessees.{top_in, lessor_in, ended_by, ends, is_plane_of, is_lent, granted}
+use Rattle.drm_history.specs.Shown.{is_universal_in}
 use Rattle.drm_rights.specs.declared.notes.Lease.{Lease}
 use Rattle.drm_rights.specs.declared.notes.End.{End}
 

@@ -6,13 +6,13 @@ use Rattle.drm_modes.specs.Topology.{Topology}
 use Rattle.drm_model.specs.ClientCapabilities.{cap_universal_planes}
 use Rattle.drm_model.specs.Rows.{is_option}
 use Rattle.drm_history.specs.History.{AnsweredEvent, next_number}
-use Rattle.drm_authority.specs.Effects as told
-use Rattle.drm_authority.specs.Effects.{effect}
-use Rattle.drm_authority.specs.MasterState as standings
-use Rattle.drm_authority.specs.MasterState.{owner_in, is_master_in, master_in, caller_master_in, lease_in}
-use Rattle.drm_authority.specs.Lessees.{top_in, is_controlled, granted}
-use Rattle.drm_authority.specs.Magics.{magic_in, is_root_in, is_named_in}
-use Rattle.drm_authority.specs.Shown.{is_universal_in}
+use Rattle.drm_history.specs.Effects as told
+use Rattle.drm_history.specs.Effects.{effect}
+use Rattle.drm_history.specs.MasterState as standings
+use Rattle.drm_history.specs.MasterState.{owner_in, is_master_in, master_in, caller_master_in, lease_in}
+use Rattle.drm_history.specs.Lessees.{top_in, is_controlled, granted}
+use Rattle.drm_history.specs.Magics.{magic_in, is_root_in, is_named_in}
+use Rattle.drm_history.specs.Shown.{is_universal_in}
 use Rattle.drm_rights.specs.Leases.{leases_in, ends_in}
 use Rattle.drm_rights.specs.declared.notes.MasterState.{MasterState}
 use Rattle.drm_rights.specs.declared.notes.Lease.{Lease}

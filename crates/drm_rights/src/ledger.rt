@@ -3,7 +3,7 @@
 ghost use Rattle.std.specs.Prelude.{◌≡◌, ◌&&◌, ◌∷◌, ◌++◌, ℕ, not, List, [], IfOk, option_and_then};
 ghost use Rattle.std.specs.List.Sorted.{IsNonDecreasing};
 ghost use Rattle.std.specs.Option.{is_some, option_map_or};
-ghost use Rattle.drm_lists.specs.Numbers as numbers;
+ghost use Rattle.drm_index_array.specs.Numbers as numbers;
 ghost use Rattle.drm_trails.specs.Effects.{effect_of};
 ghost use Rattle.drm_trails.specs.Steps.{history_of};
 ghost use Rattle.drm_rights.specs.Leases as lending;
@@ -70,11 +70,11 @@ impl Model for Ledger {
 impl Ledger {
     ghost use Rattle.std.specs.Prelude.{◌≡◌, Some, None, false, if◌then◌else◌};
     ghost use Rattle.drm_history.specs.History as past;
-    ghost use Rattle.drm_authority.specs.MasterState.{is_master_in, lease_in, master_in, caller_master_in, owner_in, master_state, transition};
-    ghost use Rattle.drm_authority.specs.Shown.{is_universal_in};
-    ghost use Rattle.drm_authority.specs.Magics.{is_named_in, is_root_in, known, magic_in};
-    ghost use Rattle.drm_authority.specs.Lessees as lessees;
-    ghost use Rattle.drm_authority.specs.Lessees.{granted, has_ended, lessee_in, lessor_in, top_in};
+    ghost use Rattle.drm_history.specs.MasterState.{is_master_in, lease_in, master_in, caller_master_in, owner_in, master_state, transition};
+    ghost use Rattle.drm_history.specs.Shown.{is_universal_in};
+    ghost use Rattle.drm_history.specs.Magics.{is_named_in, is_root_in, known, magic_in};
+    ghost use Rattle.drm_history.specs.Lessees as lessees;
+    ghost use Rattle.drm_history.specs.Lessees.{granted, has_ended, lessee_in, lessor_in, top_in};
     ghost use Rattle.drm_rights.specs.Ledgers.{new_authentication, new_magic, new_master_state};
     ghost use Rattle.drm_trails.specs.Steps.{entry_of, history_of};
 

@@ -3,7 +3,7 @@
 
 ghost use Rattle.std.specs.Prelude.{◌≡◌, ◌<◌, ◌≤◌, find, length, IfSome};
 ghost use Rattle.std.specs.List.{AllWithin};
-ghost use Rattle.drm_lists.specs.Chains as chains;
+ghost use Rattle.drm_index_array.specs.Chains as chains;
 ghost use Rattle.drm_rights.specs.Ledgers as ledgers;
 ghost use Rattle.drm_rights.specs.Ledgers.{authentication_of, capability_of, is_named_noted, is_root_noted, magic_of, master_state_of};
 ghost use Rattle.drm_rights.specs.Leases as lending;
@@ -19,7 +19,7 @@ ghost use Rattle.drm_rights.specs.Leases.{is_ended_by, lessor_noted};
 /// let master_state = MasterState { step: 1, client: 1, is_master: true, master: Some(1) };
 /// assert!(rt; master_state.is_master);
 /// ```
-#[derive(Clone, Copy, PartialEq, Eq, Debug)]
+#[derive(Clone, Copy, PartialEq, Debug)]
 pub struct MasterState {
     /// The number of the step, from 1.
     pub step: u64,
@@ -41,7 +41,7 @@ pub struct MasterState {
 /// let lease = Lease { master: 2, client: 1, lessor: Some(1), owner: 1, id: 1, token: 1, universal: true };
 /// assert!(rt; lease.lessor == Some(1));
 /// ```
-#[derive(Clone, Copy, PartialEq, Eq, Debug)]
+#[derive(Clone, Copy, PartialEq, Debug)]
 pub struct Lease {
     /// The lessee, by the number of the step.
     pub master: u64,
@@ -60,7 +60,7 @@ pub struct Lease {
 }
 
 /// The end of a master and of all masters below it.
-#[derive(Clone, Copy, PartialEq, Eq, Debug)]
+#[derive(Clone, Copy, PartialEq, Debug)]
 pub struct End {
     /// The number of the step.
     pub step: u64,
@@ -78,7 +78,7 @@ pub struct End {
 /// let magic = Magic { step: 2, master: 1, number: 1, client: 1 };
 /// assert!(rt; magic.client == 1);
 /// ```
-#[derive(Clone, Copy, PartialEq, Eq, Debug)]
+#[derive(Clone, Copy, PartialEq, Debug)]
 pub struct Magic {
     /// The number of the step.
     pub step: u64,
@@ -100,7 +100,7 @@ pub struct Magic {
 /// let authentication = Authentication { step: 4, client: 2, by: 1, magic: 1 };
 /// assert!(rt; authentication.by == 1);
 /// ```
-#[derive(Clone, Copy, PartialEq, Eq, Debug)]
+#[derive(Clone, Copy, PartialEq, Debug)]
 pub struct Authentication {
     /// The number of the step.
     pub step: u64,
@@ -122,7 +122,7 @@ pub struct Authentication {
 /// let capability = Capability { step: 1, client: 1, universal: true };
 /// assert!(rt; capability.universal);
 /// ```
-#[derive(Clone, Copy, PartialEq, Eq, Debug)]
+#[derive(Clone, Copy, PartialEq, Debug)]
 pub struct Capability {
     /// The number of the step.
     pub step: u64,

@@ -1,3 +1,8 @@
+pub mod MaskLemmas
+pub mod TopologyLineLemmas
+pub mod FittingLines
+pub mod SoFar
+pub mod TopologyOfParts
 pub mod AnswerLaws
 pub mod InterpreterLemmas
 pub mod LineLemmas

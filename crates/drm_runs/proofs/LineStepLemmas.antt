@@ -1,8 +1,8 @@
 -- The next line of a script, from what the reader of lines made of it.
 use Rattle.std.proofs.Common.{◌≡◌, ℕ, ◌+◌, ◌≤◌, ◌<◌, List, [], ◌∷◌, ◌++◌, length, refl, sym, ap, subst, ◌∙◌, arith, Bool, true, false, Some, None, Option, append_assoc, append-nil, length-append, inl, inr}
 use Rattle.std.proofs.lemmas.List.{length_push}
-use Rattle.drm_streams.specs.Streams.{SourceTrace}
-use Rattle.drm_streams.proofs.Traces.{Gave-none, Gave-then}
+use Rattle.drm_frames.specs.Streams.{SourceTrace}
+use Rattle.drm_frames.proofs.Traces.{Gave-none, Gave-then}
 use Rattle.drm_runs.specs.Lines.{joined}
 use Rattle.drm_runs.specs.Reader.{Buffered, Reads}
 use Rattle.drm_runs.specs.Runs.{Covers}

@@ -1,10 +1,10 @@
 -- A line that is read piece by piece.
 use Rattle.std.proofs.Common.{◌≡◌, ℕ, List, ◌++◌, length, refl, sym, ap, subst, ◌∙◌, arith, None}
-use Rattle.drm_streams.specs.Streams.{SourceTrace}
-use Rattle.drm_streams.specs.Turns.{Refills}
-use Rattle.drm_streams.specs.declared.turns.Refill.{Refill}
-use Rattle.drm_streams.specs.declared.turns.Refill.TheVariants as refill
-use Rattle.drm_streams.proofs.Traces.{ReadCost-then}
+use Rattle.drm_frames.specs.Streams.{SourceTrace}
+use Rattle.drm_frames.specs.Turns.{Refills}
+use Rattle.drm_frames.specs.declared.turns.Refill.{Refill}
+use Rattle.drm_frames.specs.declared.turns.Refill.TheVariants as refill
+use Rattle.drm_frames.proofs.Traces.{ReadCost-then}
 use Rattle.drm_runs.specs.Lines.{IsBare}
 use Rattle.drm_runs.specs.Reader.{Buffered, Scans, Refilled, ReadsOn, ReadsSoFar}
 use Rattle.drm_runs.specs.declared.reader.Scan.TheVariants as scan

@@ -5,9 +5,9 @@ use Rattle.drm_table.specs.declared.answers.Answer.{Answer}
 use Rattle.drm_table.specs.declared.apart.Apart.{Apart}
 use Rattle.drm_script.specs.Lines.{answer_line}
 use Rattle.drm_script.proofs.ReadingLaws.{reading_of-long}
-use Rattle.drm_streams.specs.Streams.{SourceTrace, SinkTrace}
-use Rattle.drm_streams.specs.Turns.{Took, PartialWriteCost}
-use Rattle.drm_streams.proofs.Traces.{Took-then}
+use Rattle.drm_frames.specs.Streams.{SourceTrace, SinkTrace}
+use Rattle.drm_frames.specs.Turns.{Took, PartialWriteCost}
+use Rattle.drm_frames.proofs.Traces.{Took-then}
 use Rattle.drm_runs.specs.Lines.{joined}
 use Rattle.drm_runs.specs.Script.{Setting, Place, Script, Uses, IsNowhere, script_text}
 use Rattle.drm_runs.specs.Script.Place.{Planned}

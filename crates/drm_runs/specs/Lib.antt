@@ -1,3 +1,7 @@
+pub mod TopologyLines
+pub mod Told
+pub mod Causes
+pub mod Parts
 pub mod Interpreter
 pub mod Lines
 pub mod LineSteps

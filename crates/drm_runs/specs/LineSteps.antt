@@ -1,7 +1,7 @@
 -- The lines of a script, read one after the other, and the ends of reading them (own).
 use Rattle.std.specs.Prelude.{◌≡◌, ℕ, ◌+◌, ◌*◌, ◌<◌, ◌≤◌, List, [], ◌∷◌, ◌++◌, Bool, true, false, Option, None, Some, if◌then◌else◌, length}
-use Rattle.drm_streams.specs.Streams.{SourceTrace}
-use Rattle.drm_streams.specs.Turns.{Gave}
+use Rattle.drm_frames.specs.Streams.{SourceTrace}
+use Rattle.drm_frames.specs.Turns.{Gave}
 use Rattle.drm_runs.specs.Lines.{IsBare, joined}
 use Rattle.drm_runs.specs.Reader.{Buffered, IsTooLong}
 use Rattle.drm_runs.specs.Runs.{Covers, EndsLine}

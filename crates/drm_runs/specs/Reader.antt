@@ -1,9 +1,9 @@
 -- The bytes and lines that a reader has read (own).
 use Rattle.std.specs.Prelude.{◌≡◌, ℕ, ◌+◌, ◌*◌, ◌<◌, ◌≤◌, List, [], ◌∷◌, ◌++◌, length, Option, None, Some}
-use Rattle.drm_streams.specs.Streams.{SourceTrace}
-use Rattle.drm_streams.specs.Turns.{ReadCost}
-use Rattle.drm_streams.specs.declared.turns.Refill.{Refill}
-use Rattle.drm_streams.specs.declared.turns.Refill.TheVariants as refill
+use Rattle.drm_frames.specs.Streams.{SourceTrace}
+use Rattle.drm_frames.specs.Turns.{ReadCost}
+use Rattle.drm_frames.specs.declared.turns.Refill.{Refill}
+use Rattle.drm_frames.specs.declared.turns.Refill.TheVariants as refill
 use Rattle.drm_runs.specs.Lines.{IsBare}
 use Rattle.drm_runs.specs.declared.reader.Scan.{Scan}
 use Rattle.drm_runs.specs.declared.reader.Scan.TheVariants as scan

@@ -1,7 +1,7 @@
 -- A run line by line (own).
 use Rattle.std.specs.Prelude.{◌≡◌, ℕ, ◌+◌, ◌<◌, ◌≤◌, ◌^◌, List, Option, None, Some}
-use Rattle.drm_streams.specs.Streams.{SourceTrace, SinkTrace}
-use Rattle.drm_streams.specs.Turns.{Took}
+use Rattle.drm_frames.specs.Streams.{SourceTrace, SinkTrace}
+use Rattle.drm_frames.specs.Turns.{Took}
 use Rattle.drm_runs.specs.Script.{Setting, Script, script_text}
 use Rattle.drm_runs.specs.Interpreter.{at_start}
 use Rattle.drm_runs.specs.LineSteps.{LinesRead, fuel_of, no_lines}

@@ -2,8 +2,8 @@
 use Rattle.std.specs.Prelude.{◌≡◌, ℕ, ◌+◌, ◌*◌, ◌<◌, ◌≤◌, List, [], ◌∷◌, ◌++◌, ◌⊎◌, Bool, true, false, Result, length}
 use Rattle.drm_table.specs.declared.answers.Answer.{Answer}
 use Rattle.drm_table.specs.declared.apart.Apart.{Apart}
-use Rattle.drm_streams.specs.Streams.{SourceTrace, SinkTrace}
-use Rattle.drm_streams.specs.Turns.{Gave, Took}
+use Rattle.drm_frames.specs.Streams.{SourceTrace, SinkTrace}
+use Rattle.drm_frames.specs.Turns.{Gave, Took}
 use Rattle.drm_script.specs.Lines.{answer_line}
 use Rattle.drm_runs.specs.Lines.{IsBare, joined}
 use Rattle.drm_runs.specs.Script.{Setting, Place, Script, usual, script_text, IsMisplaced, IsNowhere, WantsDevice}

@@ -4,7 +4,7 @@ ghost use Rattle.std.specs.Prelude.{◌≡◌, ◌≤◌, ◌<◌, ◌+◌, ◌+
 ghost use Rattle.drm_runs.specs.Lines.{is_end};
 
 use arrayvec::ArrayVec;
-use drm_streams::{Refill, Source, take_some};
+use drm_frames::{Refill, Source, take_some};
 use std::marker::Model;
 
 /// The most bytes that one `take` returns.

@@ -8,8 +8,8 @@ use crate::interpreter::Interpreter;
 use crate::script_lines::ScriptLines;
 use crate::stops::{ScriptEnd, Stop};
 use crate::writing::{AnswerBuffer, use_line};
+use drm_frames::{Sink, Source};
 use drm_script::Malformed;
-use drm_streams::{Sink, Source};
 use std::alloc::Global;
 
 /// A run that has not ended.
@@ -72,7 +72,7 @@ impl Run {
 ///
 /// ```rust
 /// use drm_runs::{ScriptEnd, run_script};
-/// use drm_streams::{FromRead, ToWrite};
+/// use drm_frames::{FromRead, ToWrite};
 ///
 /// let alloc = rt.alloc();
 /// let mut source = FromRead::new(b"open a card\n".as_slice());
@@ -91,36 +91,7 @@ pub fn run_script<S: Source, K: Sink>(
     requires sink_calls { (K.trace sink.old).counts.calls + turns < 2 ^ 48 }
     ensures { Runs (S.trace source.old) (S.trace source.new) (K.trace sink.old) (K.trace sink.new) turns result }
 {
-    run_with_cause(alloc, source, sink, turns).0
-}
-
-/// Runs a script as `run_script` does, and also returns the cause if a line can't be used.
-///
-/// # Examples
-///
-/// ```rust
-/// use drm_runs::{ScriptEnd, run_with_cause};
-/// use drm_streams::{FromRead, ToWrite};
-///
-/// let alloc = rt.alloc();
-/// let mut source = FromRead::new(b"opn a card\n".as_slice());
-/// let mut sink = ToWrite::new(Vec::new(alloc));
-/// let (end, cause) = run_with_cause(alloc, &mut source, &mut sink, 1000);
-/// assert!(rt; end == ScriptEnd::Malformed(1) && cause.is_some());
-/// ```
-pub fn run_with_cause<S: Source, K: Sink>(
-    alloc: Global,
-    source: &mut S,
-    sink: &mut K,
-    turns: u64,
-) -> (ScriptEnd, Option<Malformed>)
-    requires source_calls { (S.trace source.old).counts.calls + turns < 2 ^ 48 }
-    requires sink_calls { (K.trace sink.old).counts.calls + turns < 2 ^ 48 }
-    ensures runs { Runs (S.trace source.old) (S.trace source.new) (K.trace sink.old) (K.trace sink.new) turns result.0 }
-    ensures told { is_some result.1 ≡ is_malformed result.0 }
-{
-    let ran = run_on(alloc, Setup::usual(), source, sink, turns);
-    (ran.end, ran.cause)
+    run_on(alloc, Setup::usual(), source, sink, turns).end
 }
 
 /// The result of a run (own).
@@ -129,7 +100,7 @@ pub fn run_with_cause<S: Source, K: Sink>(
 ///
 /// ```rust
 /// use drm_runs::{ScriptEnd, Setup, run_on};
-/// use drm_streams::{FromRead, ToWrite};
+/// use drm_frames::{FromRead, ToWrite};
 ///
 /// let alloc = rt.alloc();
 /// let mut source = FromRead::new(b"open a card\n".as_slice());
@@ -148,7 +119,7 @@ pub struct Ran {
 }
 
 /// Runs a script as `run_script` does, on a device that begins with this topology and these default limits. It also
-/// returns the device.
+/// returns the device, and the cause if a line can't be used.
 pub fn run_on<S: Source, K: Sink>(
     alloc: Global,
     setup: Setup,

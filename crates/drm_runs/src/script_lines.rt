@@ -2,8 +2,8 @@
 
 use crate::reader::{LineReader, NextLine};
 use crate::stops::{ScriptEnd, Stop};
+use drm_frames::Source;
 use drm_script::Malformed;
-use drm_streams::Source;
 use std::marker::Model;
 
 /// The lines of a script, read from a source (own).
@@ -14,7 +14,7 @@ use std::marker::Model;
 ///
 /// ```rust
 /// use drm_runs::ScriptLines;
-/// use drm_streams::FromRead;
+/// use drm_frames::FromRead;
 ///
 /// let mut source = FromRead::new(b"open a card\n".as_slice());
 /// let mut turns = 1000;

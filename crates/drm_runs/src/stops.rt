@@ -1,11 +1,11 @@
 //! The ends of a script.
 
+use drm_frames::Written;
 use drm_script::Malformed;
-use drm_streams::Written;
 use std::marker::Model;
 
 /// The end of the run of a script (own).
-#[derive(Clone, Copy, Debug, PartialEq, Eq)]
+#[derive(Clone, Copy, Debug, PartialEq)]
 pub enum ScriptEnd {
     /// The input ended, and every line was used.
     Done,

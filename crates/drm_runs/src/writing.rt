@@ -1,15 +1,15 @@
 //! The use of a line of a script: the device makes a step, and the line of its answer is written.
 
 ghost use Rattle.std.specs.Prelude.{◌≡◌, ◌<◌, ◌+◌, ◌^◌};
-ghost use Rattle.drm_streams.specs.Turns.{Writes};
+ghost use Rattle.drm_frames.specs.Turns.{Writes};
 ghost use Rattle.drm_script.specs.Lines.{answer_line};
 ghost use Rattle.drm_runs.specs.Writing.{UsesLine};
 
 use crate::interpreter::{Interpreter, LineResult};
 use crate::script_lines::ScriptLines;
 use crate::stops::{ScriptEnd, Stop};
+use drm_frames::{Sink, Written, put_all};
 use drm_script::LineText;
-use drm_streams::{Sink, Written, put_all};
 use drm_table::{Answer, Apart};
 use std::alloc::Global;
 

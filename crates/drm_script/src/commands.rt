@@ -27,7 +27,7 @@ use drm_table::{Call, Opening};
 /// let Some(label) = Label::from_letter(b'a') else { return };
 /// assert!(rt; command == Command::Ask { label, call: Call::GetMagic });
 /// ```
-#[derive(PartialEq, Eq, Debug, Drop)]
+#[derive(PartialEq, Debug, Drop)]
 pub enum Command {
     /// Opens a client. If the device accepts it, the label names the client.
     Open { label: Label, opening: Opening },

@@ -6,7 +6,7 @@ ghost use Rattle.drm_script.specs.Fields.{place_of, label_of};
 use std::marker::Model;
 
 /// A label: one letter from `a` to `z` (own). Contracts see its place in the alphabet, from 0.
-#[derive(Clone, Copy, PartialEq, Eq, Debug)]
+#[derive(Clone, Copy, PartialEq, Debug)]
 pub struct Label {
     place: u8,
 }

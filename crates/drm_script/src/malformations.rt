@@ -21,7 +21,7 @@ use thiserror::Error;
 /// let Err(malformed) = read_line(b"a") else { return };
 /// assert!(rt; malformed.cause == Malformation::Lacks(Wanted::Call));
 /// ```
-#[derive(Clone, Copy, Debug, PartialEq, Eq)]
+#[derive(Clone, Copy, Debug, PartialEq)]
 pub enum Wanted {
     /// A label, or a word that begins a line.
     FirstWord,
@@ -51,7 +51,7 @@ impl fmt::Display for Wanted {
 }
 
 /// The reason a line of a script cannot be used (own).
-#[derive(Clone, Copy, Debug, PartialEq, Eq, Error)]
+#[derive(Clone, Copy, Debug, PartialEq, Error)]
 pub enum Malformation {
     /// More than 255 bytes, without the line end.
     #[error("the line has more than 255 bytes")]
@@ -95,7 +95,7 @@ pub const WORD: usize = 32;
 /// let Err(malformed) = read_line(b"a get_majic") else { return };
 /// assert!(rt; malformed.column == 3 && malformed.word.as_str() == "get_majic");
 /// ```
-#[derive(Clone, Copy, Debug, PartialEq, Eq)]
+#[derive(Clone, Copy, Debug, PartialEq)]
 pub struct Malformed {
     /// The column, in bytes from 1, where the word at fault begins or is missing, or the column of the byte at fault.
     pub column: usize,

@@ -19,7 +19,7 @@ use drm_table::Limits;
 const LONGEST: usize = 255;
 
 /// The content of a line (own).
-#[derive(PartialEq, Eq, Debug, Drop)]
+#[derive(PartialEq, Debug, Drop)]
 pub enum Reading {
     /// Nothing: a comment, or no word.
     Skipped,

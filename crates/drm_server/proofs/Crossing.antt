@@ -3,7 +3,7 @@ use denote.Struct.Declared.{shape}
 use denote.Param.Send.{IsSend, recorded_send, sendable, struct_send}
 use Rattle.std.proofs.Crossing.{crosses}
 use Rattle.drm_traffic.proofs.batch.Batch.TheSendSync as batch
-use Rattle.drm_journals.proofs.Crossing.{writer_send}
+use Rattle.drm_checks.proofs.Crossing.{writer_send}
 use Rattle.drm_traffic.proofs.Crossing.{tracer_send}
 use Rattle.drm_connections.proofs.outlet.Outlet.TheSendSync as outlet
 use Rattle.drm_server.specs.contracts.growing_journal.GrowingJournal as journal

@@ -3,8 +3,8 @@ use Rattle.std.proofs.Common.{◌≡◌, ℕ, zero, suc, ◌+◌, ◌<◌, List,
 use Rattle.std.specs.List.{flat_map}
 use Rattle.std.proofs.lemmas.Grind.{flat_map-append}
 use Rattle.std.proofs.lemmas.List.{take-append-drop}
-use Rattle.drm_streams.specs.Streams.{SinkTrace}
-use Rattle.drm_streams.specs.Turns.{WriteCost, PartialWriteCost}
+use Rattle.drm_frames.specs.Streams.{SinkTrace}
+use Rattle.drm_frames.specs.Turns.{WriteCost, PartialWriteCost}
 use Rattle.drm_server.specs.declared.listing.ListEnd.TheVariants as ends
 use Rattle.drm_model.specs.Rows.{Rows}
 use Rattle.drm_server.specs.Listing.{Lists, audit_text}

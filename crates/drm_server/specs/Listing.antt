@@ -5,8 +5,8 @@ use Rattle.drm_table.specs.declared.audits.AuditKind.{AuditKind}
 use Rattle.drm_table.specs.Audits.{kinds}
 use Rattle.drm_model.specs.Rows.{Rows}
 use Rattle.drm_model.specs.Audit.{audit_rows, rising_rows}
-use Rattle.drm_streams.specs.Streams.{SinkTrace}
-use Rattle.drm_streams.specs.Turns.{Took}
+use Rattle.drm_frames.specs.Streams.{SinkTrace}
+use Rattle.drm_frames.specs.Turns.{Took}
 use Rattle.drm_script.specs.Lines.{audit_line}
 use Rattle.drm_commands.specs.declared.faults.Fault.{Fault}
 use Rattle.drm_commands.specs.declared.faults.Fault.TheVariants as faults

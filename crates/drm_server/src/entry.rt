@@ -14,10 +14,11 @@ use clap::Error;
 use clap::error::ErrorKind;
 use drm_commands::{
     Fault, FilesRead, JournalFile, Outcome, TopologyText, asked_device, asked_limits, check,
-    create_asked, explain_script, outcome_by, outcome_of_fault, read_asked, run, shrink, update,
+    create_asked, explain_script, outcome_by, outcome_of, outcome_of_checks, outcome_of_fault,
+    read_asked, run, shrink, update,
 };
 use drm_device::Limits;
-use drm_streams::ToWrite;
+use drm_frames::ToWrite;
 use drm_traffic::PROGRAM;
 use log::{Log, error};
 use std::alloc::Global;
@@ -122,11 +123,17 @@ where
     R::File: AsRawFd,
 {
     match read_words(alloc, words) {
-        Ok(Some(Asked::Run(running))) => run(rt, alloc, running),
-        Ok(Some(Asked::Check(checking))) => check(rt, alloc, &checking),
-        Ok(Some(Asked::Update(checking))) => update(rt, alloc, &checking),
+        Ok(Some(Asked::Run(running))) => Ok(outcome_of(&run(rt, alloc, running)?)),
+        Ok(Some(Asked::Check(checking))) => Ok(outcome_of_checks(&check(rt, alloc, &checking)?)),
+        Ok(Some(Asked::Update(checking))) => {
+            update(rt, alloc, &checking)?;
+            Ok(outcome_by(None))
+        }
         Ok(Some(Asked::Explain(explaining))) => explain_script(rt, alloc, explaining),
-        Ok(Some(Asked::Shrink(shrinking))) => shrink(rt, alloc, shrinking),
+        Ok(Some(Asked::Shrink(shrinking))) => {
+            shrink(rt, alloc, shrinking)?;
+            Ok(outcome_by(None))
+        }
         Ok(Some(Asked::Serve(serving, rules))) => serve(rt, alloc, serving, &rules),
         Ok(None) => {
             error!(rt; target: PROGRAM, "a number has a sign");

@@ -1,9 +1,9 @@
 //! A journal that grows while its device is served.
 
+use drm_checks::JournalWriter;
 use drm_commands::Fault;
 use drm_connections::{Outlet, Put};
 use drm_device::Device;
-use drm_journals::JournalWriter;
 use drm_table::Limits;
 use drm_traffic::{Batch, Watch};
 use std::alloc::{AllocError, Global};

@@ -22,11 +22,9 @@ pub use drm_commands::{
 pub use drm_connections::{Counts, OpenConnections};
 pub use drm_listeners::{
     Attended, ByClass, CardClass, ClassListener, ListenerClass, Listeners, RenderClass, RootClass,
-    ServeFault, Unserved, Visitors, serve_all, serve_until_ended, serve_until_told,
+    ServeFault, Unserved, Visitors, serve_all, serve_until_ended,
 };
-pub use drm_runs::{
-    Ran, ScriptEnd, Setup, run_on, run_script, run_with_cause, scripts_are_answered,
-};
+pub use drm_runs::{Ran, ScriptEnd, Setup, run_on, run_script, scripts_are_answered};
 pub use drm_traffic::class_word;
 pub use entry::program;
 pub use listing::{ListEnd, list_audit, outcome_of_listing};

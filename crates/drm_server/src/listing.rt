@@ -4,14 +4,14 @@ ghost use Rattle.std.specs.Prelude.{◌≡◌, ◌<◌, ◌+◌, ◌^◌};
 ghost use Rattle.std.specs.List.{flat_map};
 ghost use Rattle.drm_model.specs.Run.{rows_of};
 ghost use Rattle.drm_script.specs.Lines as lines;
-ghost use Rattle.drm_streams.specs.Texts.{WritesOut};
+ghost use Rattle.drm_frames.specs.Texts.{WritesOut};
 ghost use Rattle.drm_commands.specs.Outcomes.{line_by, status_by};
 ghost use Rattle.drm_server.specs.Listing.{Lists, fault_of_listing, kind_text};
 
 use drm_commands::{Fault, Outcome, outcome_by};
 use drm_device::Device;
+use drm_frames::{Sink, Written, put_all};
 use drm_script::audit_line;
-use drm_streams::{Sink, Written, put_all};
 use drm_table::{AuditKind, AuditRow};
 
 /// The most rows of a page of an audit.
@@ -21,7 +21,7 @@ const PAGE: u32 = 16;
 const PAGES: u32 = 1 << 27;
 
 /// The end of a listing (own).
-#[derive(Clone, Copy, Debug, PartialEq, Eq)]
+#[derive(Clone, Copy, Debug, PartialEq)]
 pub enum ListEnd {
     /// All rows are written.
     Done,
@@ -40,7 +40,7 @@ pub enum ListEnd {
 ///
 /// ```rust
 /// use drm_server::{ListEnd, Setup, list_audit};
-/// use drm_streams::ToWrite;
+/// use drm_frames::ToWrite;
 ///
 /// let alloc = rt.alloc();
 /// let Some(device) = Setup::usual().make(alloc) else { return };

@@ -37,7 +37,7 @@ impl<'a> Paths<'a> {
 
 /// The identity of the file at a path. If the file system stores the time of creation, a reused number is that of
 /// another file.
-#[derive(Clone, Copy, PartialEq, Eq)]
+#[derive(Clone, Copy, PartialEq)]
 struct FileId {
     device: u64,
     inode: u64,

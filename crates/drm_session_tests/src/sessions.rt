@@ -2,11 +2,11 @@
 
 use crate::comparing::same;
 use drm_device::Device;
+use drm_frames::{FromRead, Source, ToWrite};
 use drm_sessions::{Access, Class, Gate, NoGate, Session, SessionEnd, serve, serve_alone};
-use drm_streams::{FromRead, Source, ToWrite};
 use drm_table::{Answer, Apart, Event, Limits, Rule};
 use drm_test_devices::{Trial, try_on_new};
-use drm_test_streams::{Cut, sink_of, source_of};
+use drm_test_support::{Cut, sink_of, source_of};
 use std::alloc::{AllocError, Global};
 use std::cell::Cell;
 use std::process::Abort;

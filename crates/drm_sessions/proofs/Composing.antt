@@ -6,7 +6,7 @@ use Rattle.std.proofs.KnownBytes.{Consumes-nil, Consumes-trans}
 use Rattle.drm_table.specs.declared.events.Event.{Event}
 use Rattle.drm_frames.specs.Grammar.{FrameValue, frame_text, IsFrame}
 use Rattle.drm_frames.specs.Answers.{CallResult, answer_text}
-use Rattle.drm_streams.specs.Streams.{SourceTrace}
+use Rattle.drm_frames.specs.Streams.{SourceTrace}
 use Rattle.drm_sessions.specs.ReadChunks.{Used, ends_in_chunk}
 use Rattle.drm_sessions.specs.Reading.{Comes, Uses}
 use Rattle.drm_sessions.specs.Runs.{RequestReply, request_reply, Runs, asked, outcomes, session_text, journaled, one_if_journaled, Requests}

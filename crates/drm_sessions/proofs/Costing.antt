@@ -1,9 +1,9 @@
 -- What a whole session costs.
 use Rattle.std.proofs.Common.{ℕ, List, refl, inl, arith}
 use Rattle.drm_frames.specs.Grammar.{FrameValue}
-use Rattle.drm_streams.specs.Streams.{SourceTrace, SinkTrace}
-use Rattle.drm_streams.specs.Turns.{NeverFall}
-use Rattle.drm_streams.proofs.Traces.{NeverFall-none}
+use Rattle.drm_frames.specs.Streams.{SourceTrace, SinkTrace}
+use Rattle.drm_frames.specs.Turns.{NeverFall}
+use Rattle.drm_frames.proofs.Traces.{NeverFall-none}
 use Rattle.drm_sessions.specs.declared.end.SessionEnd.{SessionEnd}
 use Rattle.drm_sessions.specs.declared.end.SessionEnd.TheVariants as ends
 use Rattle.drm_sessions.specs.Reading.{Comes, Uses, StopsAt, ReadShows, SourceTells}

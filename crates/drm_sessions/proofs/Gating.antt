@@ -2,7 +2,7 @@
 use Rattle.std.proofs.Common.{ℕ, List, [], ◌∷◌, ◌++◌, ap}
 use Rattle.drm_table.specs.declared.events.Event.{Event}
 use Rattle.drm_frames.specs.Answers.{CallResult}
-use Rattle.drm_streams.specs.Streams.{SourceTrace, SinkTrace}
+use Rattle.drm_frames.specs.Streams.{SourceTrace, SinkTrace}
 use Rattle.drm_sessions.specs.declared.class.Class.{Class}
 use Rattle.drm_sessions.specs.declared.end.Session.{Session}
 use Rattle.drm_sessions.specs.Gates.{Gated, LetsAllPass}

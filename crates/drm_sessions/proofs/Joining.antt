@@ -5,7 +5,7 @@ use Rattle.std.specs.Prelude.{IfOk, OnErr, OnOk}
 use Rattle.drm_turns.specs.Participants.{ParticipantView, with_outstanding}
 use Rattle.drm_turns.specs.Views.{outstanding_after}
 use Rattle.drm_turns.proofs.ParticipantsIn.{given_back, split-off-again}
-use Rattle.drm_streams.specs.Streams.{SourceTrace, SinkTrace}
+use Rattle.drm_frames.specs.Streams.{SourceTrace, SinkTrace}
 use Rattle.drm_sessions.specs.declared.jobs.Finished.{Finished}
 use Rattle.drm_sessions.specs.declared.jobs.Job.{Job}
 use Rattle.drm_sessions.specs.declared.end.Session.{Session}

@@ -6,8 +6,8 @@ use Rattle.std.proofs.KnownBytes.{Appends-nil, Appends-trans}
 use Rattle.drm_table.specs.declared.events.Event.{Event}
 use Rattle.drm_frames.specs.Grammar.{FrameValue}
 use Rattle.drm_frames.specs.Answers.{CallResult, answer_text}
-use Rattle.drm_streams.specs.Streams.{SourceTrace, SinkTrace}
-use Rattle.drm_streams.specs.Turns.{NeverFall, ReadCost, WriteCost, PartialWriteCost}
+use Rattle.drm_frames.specs.Streams.{SourceTrace, SinkTrace}
+use Rattle.drm_frames.specs.Turns.{NeverFall, ReadCost, WriteCost, PartialWriteCost}
 use Rattle.drm_sessions.specs.declared.end.SessionEnd.{SessionEnd}
 use Rattle.drm_sessions.specs.declared.end.SessionEnd.TheVariants as ends
 use Rattle.drm_sessions.specs.ReadChunks.{ends_in_chunk}

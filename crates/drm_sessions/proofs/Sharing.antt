@@ -11,7 +11,7 @@ use Rattle.drm_model.specs.Run.{DeviceValue}
 use Rattle.drm_turns.specs.Turns.{Answered}
 use Rattle.drm_turns.proofs.ParticipantsIn.{starts_on}
 use Rattle.drm_frames.specs.Answers.{CallResult}
-use Rattle.drm_streams.specs.Streams.{SourceTrace, SinkTrace}
+use Rattle.drm_frames.specs.Streams.{SourceTrace, SinkTrace}
 use Rattle.drm_sessions.specs.declared.class.Class.{Class}
 use Rattle.drm_sessions.specs.declared.end.Session.{Session}
 use Rattle.drm_sessions.specs.Runs.{RequestReply, Runs, journaled, one_if_journaled, outcomes}

@@ -2,8 +2,8 @@
 use Rattle.std.proofs.Common.{◌≡◌, ℕ, Bool, true, false, List, [], ◌∷◌, ◌++◌, length, refl, sym, ap, ◌∙◌, subst, append_assoc}
 use Rattle.std.proofs.lemmas.List.{append-nil}
 use Rattle.drm_frames.specs.Grammar.{FrameValue, frame_text, IsPart}
-use Rattle.drm_streams.specs.Streams.{SourceTrace}
-use Rattle.drm_streams.proofs.Traces.{Gave-none, ReadCost-then}
+use Rattle.drm_frames.specs.Streams.{SourceTrace}
+use Rattle.drm_frames.proofs.Traces.{Gave-none, ReadCost-then}
 use Rattle.drm_sessions.specs.ReadChunks.{ReadChunk, Chunk, Used, InTurn, bytes_taken, frames_used, last_chunk, ends_in_chunk, Takes}
 use Rattle.drm_sessions.specs.Reading.{Gives, Comes, Uses}
 

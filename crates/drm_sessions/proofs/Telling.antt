@@ -2,9 +2,9 @@
 use Rattle.std.proofs.Common.{◌≡◌, ℕ, ◌+◌, ◌≤◌, ◌⊎◌, inl, inr, List, [], ◌∷◌, Ok, Err, refl, sym, ap, ◌∙◌, subst, arith}
 use Rattle.drm_table.specs.declared.apart.Apart.TheVariants as aparts
 use Rattle.drm_frames.specs.Answers.{CallResult}
-use Rattle.drm_streams.specs.Streams.{Counts, SinkTrace, one_call}
-use Rattle.drm_streams.specs.Turns.{HandsRest, PartialWriteCost, PutCalls, PutPieces, Writes, interrupted, pieces_put}
-use Rattle.drm_streams.specs.declared.turns.Written.TheVariants as written
+use Rattle.drm_frames.specs.Streams.{Counts, SinkTrace, one_call}
+use Rattle.drm_frames.specs.Turns.{HandsRest, PartialWriteCost, PutCalls, PutPieces, Writes, interrupted, pieces_put}
+use Rattle.drm_frames.specs.declared.turns.Written.TheVariants as written
 use Rattle.drm_sessions.specs.declared.end.SessionEnd.{SessionEnd}
 use Rattle.drm_sessions.specs.declared.end.SessionEnd.TheVariants as ends
 use Rattle.drm_sessions.specs.Reading.{EndTold, FaultTold, HandsLater, SinkTells, SourceTells, StopsAt, Untold, WriteShows, Wrote}

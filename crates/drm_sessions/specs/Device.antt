@@ -12,7 +12,7 @@ use Rattle.drm_model.specs.Results.{result_by, results}
 use Rattle.drm_turns.specs.Turns.{DeviceSteps}
 use Rattle.drm_frames.specs.Answers.{CallResult}
 use Rattle.drm_frames.specs.Grammar.{FrameValue}
-use Rattle.drm_streams.specs.Streams.{SourceTrace, SinkTrace}
+use Rattle.drm_frames.specs.Streams.{SourceTrace, SinkTrace}
 use Rattle.drm_sessions.specs.declared.class.Class.{Class}
 use Rattle.drm_sessions.specs.declared.end.Session.{Session}
 use Rattle.drm_sessions.specs.declared.end.SessionEnd.{SessionEnd}

@@ -4,8 +4,8 @@ use Rattle.std.specs.Io.KnownBytes.{IsAtEnd}
 use Rattle.drm_table.specs.declared.events.Event.{Event}
 use Rattle.drm_table.specs.declared.apart.Apart.TheVariants as aparts
 use Rattle.drm_frames.specs.Answers.{CallResult, answer_text}
-use Rattle.drm_streams.specs.Streams.{Counts, SourceTrace, SinkTrace}
-use Rattle.drm_streams.specs.Turns.{NeverFall, WriteCost, PartialWriteCost}
+use Rattle.drm_frames.specs.Streams.{Counts, SourceTrace, SinkTrace}
+use Rattle.drm_frames.specs.Turns.{NeverFall, WriteCost, PartialWriteCost}
 use Rattle.drm_sessions.specs.declared.end.SessionEnd.{SessionEnd}
 use Rattle.drm_sessions.specs.declared.end.SessionEnd.TheVariants as ends
 use Rattle.drm_sessions.specs.Reading.{HandsLater, WritesFront, SinkTells, SourceTells, StopsAt, Untold, WriteShows}

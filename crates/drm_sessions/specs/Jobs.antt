@@ -1,7 +1,7 @@
 -- A job and its result (own).
 use Rattle.std.specs.Prelude.{ℕ, ◌+◌, ◌^◌, ◌<◌, List, map}
 use Rattle.drm_turns.specs.Participants.{IsSplitOff, ParticipantView}
-use Rattle.drm_streams.specs.Streams.{SourceTrace, SinkTrace}
+use Rattle.drm_frames.specs.Streams.{SourceTrace, SinkTrace}
 use Rattle.drm_sessions.specs.declared.end.Session.{Session}
 use Rattle.drm_sessions.specs.declared.jobs.Job.{Job}
 use Rattle.drm_sessions.specs.declared.jobs.Finished.{Finished}

@@ -1,7 +1,7 @@
 -- The times at which a session takes bytes (own).
 use Rattle.std.specs.Prelude.{◌≡◌, ℕ, Bool, true, false, ◌<◌, List, [], ◌∷◌, ◌++◌, length}
 use Rattle.drm_frames.specs.Grammar.{FrameValue, frame_text, IsPart}
-use Rattle.drm_streams.specs.Streams.{SourceTrace}
+use Rattle.drm_frames.specs.Streams.{SourceTrace}
 
 -- the bytes that one call of the source returned, or a frame that was used
 pub data ReadChunk : Type 0 where

@@ -2,10 +2,10 @@
 use Rattle.std.specs.Prelude.{◌≡◌, ◌≢◌, ◌⊎◌, ℕ, ◌+◌, ◌<◌, ◌≤◌, List, [], ◌++◌, length, Result, Ok, Err, ⊤}
 use Rattle.std.specs.Io.KnownBytes.{Appends, IsAtEnd}
 use Rattle.drm_frames.specs.Grammar.{FrameValue, frame_text, IsFrame, IsPart, IsTooLong}
-use Rattle.drm_streams.specs.Streams.{Counts, SourceTrace, SinkTrace}
-use Rattle.drm_streams.specs.Turns.{ReadCost, WriteCost, PartialWriteCost}
-use Rattle.drm_streams.specs.declared.turns.Refill.{Refill}
-use Rattle.drm_streams.specs.declared.turns.Refill.TheVariants as refill
+use Rattle.drm_frames.specs.Streams.{Counts, SourceTrace, SinkTrace}
+use Rattle.drm_frames.specs.Turns.{ReadCost, WriteCost, PartialWriteCost}
+use Rattle.drm_frames.specs.declared.turns.Refill.{Refill}
+use Rattle.drm_frames.specs.declared.turns.Refill.TheVariants as refill
 use Rattle.drm_sessions.specs.ReadChunks.{ReadChunk, Takes}
 use Rattle.drm_sessions.specs.declared.end.SessionEnd.{SessionEnd}
 use Rattle.drm_sessions.specs.declared.end.SessionEnd.TheVariants as ends

@@ -7,7 +7,7 @@ use Rattle.drm_table.specs.declared.events.Event.TheVariants.{Ask}
 use Rattle.drm_frames.specs.Grammar.{FrameValue, frame_text, IsFrame}
 use Rattle.drm_frames.specs.Requests.{request_of}
 use Rattle.drm_frames.specs.Answers.{CallResult, answer_text}
-use Rattle.drm_streams.specs.Streams.{SourceTrace}
+use Rattle.drm_frames.specs.Streams.{SourceTrace}
 use Rattle.drm_sessions.specs.ReadChunks.{ReadChunk, Takes, ends_in_chunk}
 
 -- an event and what it was answered

@@ -8,7 +8,7 @@ use Rattle.drm_table.specs.declared.events.Opening.{Opening}
 use Rattle.drm_table.specs.declared.answers.Answer.TheVariants.{Opened, Denied}
 use Rattle.drm_table.specs.declared.apart.Apart.TheVariants.{Worn}
 use Rattle.drm_frames.specs.Grammar.{FrameValue, frame_text, IsFrame}
-use Rattle.drm_streams.specs.Streams.{SourceTrace, SinkTrace}
+use Rattle.drm_frames.specs.Streams.{SourceTrace, SinkTrace}
 use Rattle.drm_frames.specs.Answers.{CallResult}
 use Rattle.drm_sessions.specs.declared.class.Class.{Class}
 use Rattle.drm_sessions.specs.declared.end.Session.{Session}

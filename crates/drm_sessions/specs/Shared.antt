@@ -8,7 +8,7 @@ use Rattle.drm_turns.specs.History.{StartsWith, device_at, entry}
 use Rattle.drm_turns.specs.Participants.{Commits, Aborts, Extends, Same, ParticipantView, Unchanged, entries_of}
 use Rattle.drm_turns.specs.Turns.{Answered}
 use Rattle.drm_frames.specs.Answers.{CallResult}
-use Rattle.drm_streams.specs.Streams.{SourceTrace, SinkTrace}
+use Rattle.drm_frames.specs.Streams.{SourceTrace, SinkTrace}
 use Rattle.drm_sessions.specs.declared.class.Class.{Class}
 use Rattle.drm_sessions.specs.declared.end.Session.{Session}
 use Rattle.drm_sessions.specs.Runs.{RequestReply}

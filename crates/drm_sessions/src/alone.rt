@@ -10,7 +10,7 @@ use crate::class::Class;
 use crate::end::Session;
 use crate::serving::serve;
 use drm_device::Device;
-use drm_streams::{Sink, Source};
+use drm_frames::{Sink, Source};
 use drm_table::{Answer, Apart, Event};
 
 /// A device that one session has alone: each call is a step.

@@ -1,7 +1,7 @@
 //! What a client may ask to be opened as.
 
 /// What the clients of a listener are (own): which hellos it allows, and who is root.
-#[derive(Clone, Copy, Debug, PartialEq, Eq)]
+#[derive(Clone, Copy, Debug, PartialEq)]
 pub enum Class {
     /// Primary nodes and lease tokens, not root.
     Card,

@@ -23,7 +23,7 @@ use std::fmt::{Display, Formatter};
 /// let Session { end, steps, .. } = session;
 /// assert!(rt; end == SessionEnd::Truncated && steps == 0);
 /// ```
-#[derive(Clone, Copy, Debug, PartialEq, Eq)]
+#[derive(Clone, Copy, Debug, PartialEq)]
 pub enum SessionEnd {
     /// The input ended between frames.
     Ended,
@@ -74,7 +74,7 @@ impl Display for SessionEnd {
 }
 
 /// A session that has ended.
-#[derive(Clone, Copy, Debug, PartialEq, Eq)]
+#[derive(Clone, Copy, Debug, PartialEq)]
 pub struct Session {
     /// Why it ended.
     pub end: SessionEnd,

@@ -2,7 +2,7 @@
 
 ghost use Rattle.std.specs.Prelude.{◌≡◌, ◌^◌, ◌+◌, ◌<◌, ◌≤◌, ℕ, List, [], length, take, drop};
 
-use drm_streams::{Refill, Source, take_some};
+use drm_frames::{Refill, Source, take_some};
 use std::marker::Model;
 
 /// Up to one frame's bytes.

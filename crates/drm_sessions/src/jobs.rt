@@ -7,7 +7,7 @@ use crate::access::Gate;
 use crate::class::Class;
 use crate::end::Session;
 use crate::through::{Served, serve_through};
-use drm_streams::{Sink, Source};
+use drm_frames::{Sink, Source};
 use drm_turns::{Seat, Sharing};
 use std::snapshot::Snapshot;
 use std::sync::Wait;

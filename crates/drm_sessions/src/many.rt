@@ -12,7 +12,7 @@ ghost use Rattle.drm_sessions.specs.Matched.{Matched};
 
 use crate::access::Gate;
 use crate::jobs::{Finished, Job, JobHandle, Returned, start_job};
-use drm_streams::{Sink, Source};
+use drm_frames::{Sink, Source};
 use drm_turns::{Seat, SharedDevice};
 use std::alloc::Global;
 use std::sync::Wait;
@@ -39,7 +39,7 @@ use std::thread::{Scope, Threads};
 ///     Err(ManyFault::NoMemory | ManyFault::NoThread) => return,
 /// }
 /// ```
-#[derive(Clone, Copy, Debug, PartialEq, Eq)]
+#[derive(Clone, Copy, Debug, PartialEq)]
 pub enum ManyFault {
     /// There was no memory for the list of threads, or of sessions. No job was started.
     NoMemory,

@@ -5,8 +5,7 @@ ghost use Rattle.drm_sessions.specs.Reading.{Reads};
 
 use crate::end::SessionEnd;
 use crate::inbox::Inbox;
-use drm_frames::{Decoded, Frame, Hello, decode, hello_of, read_call};
-use drm_streams::{Refill, Source};
+use drm_frames::{Decoded, Frame, Hello, Refill, Source, decode, hello_of, read_call};
 use drm_table::Call;
 
 /// What a frame is read as.

@@ -12,8 +12,7 @@ use crate::end::SessionEnd;
 use crate::inbox::Inbox;
 use crate::reading::next_message;
 use crate::writing::write_answer;
-use drm_frames::AnswerText;
-use drm_streams::{Sink, Source};
+use drm_frames::{AnswerText, Sink, Source};
 use drm_table::{Answer, Apart, Call, Event};
 
 /// The end of the requests, and the number of those that were recorded.

@@ -18,8 +18,7 @@ use crate::opening::opening_of;
 use crate::reading::next_message;
 use crate::requests::{Stopped, answer_requests};
 use crate::writing::write_answer;
-use drm_frames::{AnswerText, Hello};
-use drm_streams::{Sink, Source};
+use drm_frames::{AnswerText, Hello, Sink, Source};
 use drm_table::{Answer, Apart, Event, Opening};
 
 // Writes the answer to an opening that was accepted, and answers the client's requests.

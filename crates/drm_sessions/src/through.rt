@@ -10,7 +10,7 @@ use crate::class::Class;
 use crate::end::Session;
 use crate::serving::serve;
 use crate::witness::{NoWitness, Witness};
-use drm_streams::{Sink, Source};
+use drm_frames::{Sink, Source};
 use drm_table::{Answer, Apart, Event};
 use drm_turns::{Seat, SharedDevice};
 use std::marker::Model;

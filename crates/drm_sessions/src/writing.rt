@@ -4,7 +4,7 @@ ghost use Rattle.std.specs.Prelude.{◌^◌, ◌+◌, ◌<◌};
 ghost use Rattle.drm_sessions.specs.Reading.{Wrote};
 
 use crate::end::SessionEnd;
-use drm_streams::{Sink, Written, put_all};
+use drm_frames::{Sink, Written, put_all};
 
 /// Puts the whole text of an answer, or says how writing it ended the session.
 pub(crate) fn write_answer<K: Sink>(

@@ -2,7 +2,7 @@
 use Rattle.std.specs.Prelude.{ℕ, ◌==◌, ◌≤◌, Bool, not, nat_lt, List, [], map, filter, find, slice_get, Option, None, if◌then◌else◌}
 use Rattle.std.specs.List.{AllByRecursion}
 use Rattle.std.specs.Option.{option_map}
-use Rattle.drm_lists.specs.Numbers.{is_among}
+use Rattle.drm_index_array.specs.Numbers.{is_among}
 use Rattle.drm_index_array.specs.Least.{least}
 use Rattle.drm_index_array.specs.Rows.{placed, InOrder}
 use Rattle.drm_share.specs.declared.rows.SharedName.{SharedName}

@@ -1,7 +1,7 @@
 -- The open tokens of exported objects (drm-mm, PRIME; tokens are own), as a flat list.
 use Rattle.std.specs.Prelude.{ℕ, ◌+◌, ◌==◌, ◌≤◌, ◌&&◌, Bool, not, nat_lt, List, [], map, filter, slice_get, Option, Some, None, unwrap_or, IfSome, if◌then◌else◌}
 use Rattle.std.specs.List.{AllByRecursion}
-use Rattle.drm_lists.specs.Numbers.{is_among}
+use Rattle.drm_index_array.specs.Numbers.{is_among}
 use Rattle.drm_index_array.specs.Least.{least}
 use Rattle.drm_index_array.specs.Rows.{placed, InOrder}
 pub use Rattle.drm_id_alloc.specs.Table.{or_else}

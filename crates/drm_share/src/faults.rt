@@ -15,7 +15,7 @@
 ///     assert!(rt; names.give(ObjectKey::from_number(5)) == Err(ShareFault::Full));
 /// }
 /// ```
-#[derive(Clone, Copy, PartialEq, Eq, Debug)]
+#[derive(Clone, Copy, PartialEq, Debug)]
 pub enum ShareFault {
     /// No number is free.
     Full,

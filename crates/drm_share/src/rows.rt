@@ -16,7 +16,7 @@ use drm_gem::ObjectKey;
 /// let Ok(name) = names.give(object) else { return };
 /// assert!(rt; names.nth_name(0) == Some(SharedName { name, object }));
 /// ```
-#[derive(Clone, Copy, PartialEq, Eq, Debug)]
+#[derive(Clone, Copy, PartialEq, Debug)]
 pub struct SharedName {
     /// The name, which is the same number for all clients.
     pub name: u32,
@@ -38,7 +38,7 @@ pub struct SharedName {
 /// let Ok(token) = tokens.export(9, object) else { return };
 /// assert!(rt; tokens.nth_token(0) == Some(SharedToken { token, client: 9, object }));
 /// ```
-#[derive(Clone, Copy, PartialEq, Eq, Debug)]
+#[derive(Clone, Copy, PartialEq, Debug)]
 pub struct SharedToken {
     /// The token, which is the same number for all clients.
     pub token: u32,

@@ -2,8 +2,8 @@
 use Rattle.std.proofs.Common.{◌≡◌, ℕ, Bool, true, not, List, filter, None, Some, ap, subst, ◌∙◌}
 use Rattle.std.specs.Prelude.{if◌then◌else◌}
 use Rattle.std.specs.List.{AllByRecursion}
-use Rattle.drm_lists.proofs.Chains.{itself}
-use Rattle.drm_lists.proofs.Lists.{filter_all, filter_true}
+use Rattle.drm_index_array.proofs.Chains.{itself}
+use Rattle.drm_index_array.proofs.Lists.{filter_all, filter_true}
 use Rattle.drm_masters.specs.declared.rows.Master.{Master}
 use Rattle.drm_masters.specs.declared.rows.Member.{Member}
 use Rattle.drm_masters.specs.Masters as masters

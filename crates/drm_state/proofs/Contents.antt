@@ -6,12 +6,12 @@ use Rattle.std.specs.Option.{is_some, option_map, option_map_or, OnSome, IfNone}
 use Rattle.std.proofs.lemmas.Bool.{le-leb}
 use Rattle.std.proofs.lemmas.Bool.Decides.{nat_tests}
 use Rattle.std.proofs.lemmas.List.{map-append}
-use Rattle.drm_lists.specs.Orders.{SameRows}
-use Rattle.drm_lists.specs.Numbers.{is_among}
-use Rattle.drm_lists.proofs.Lists.{all_weaker, filter-map, map-map, list_any-map}
-use Rattle.drm_lists.proofs.FoundInLists.{find-map, found-number, is_some-map, find-same}
-use Rattle.drm_lists.proofs.Numbers.{among-more, among-first, among-left, among-right}
-use Rattle.drm_lists.proofs.Orders.{in_order_filter, same-any, same-map, same-filter, sorted-same, order_of_numbers, same_parts}
+use Rattle.drm_index_array.specs.Orders.{SameRows}
+use Rattle.drm_index_array.specs.Numbers.{is_among}
+use Rattle.drm_index_array.proofs.Lists.{all_weaker, filter-map, map-map, list_any-map}
+use Rattle.drm_index_array.proofs.FoundInLists.{find-map, found-number, is_some-map, find-same}
+use Rattle.drm_index_array.proofs.Numbers.{among-more, among-first, among-left, among-right}
+use Rattle.drm_index_array.proofs.Orders.{in_order_filter, same-any, same-map, same-filter, sorted-same, order_of_numbers, same_parts}
 use Rattle.drm_gem.specs.declared.object.Object.{Object}
 use Rattle.drm_gem.specs.declared.object.Dead.{Dead}
 use Rattle.drm_gem.specs.Objects.{ObjectSet, is_key, passes, changed_at, without_key, unheld, unreferred, stamped, dead_after}

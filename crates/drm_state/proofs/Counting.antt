@@ -4,12 +4,12 @@ use Rattle.std.specs.Prelude.{if◌then◌else◌}
 use Rattle.std.specs.List.{AllByRecursion}
 use Rattle.std.specs.Option.{is_some, option_map, OnSome, IfNone}
 use Rattle.std.proofs.lemmas.Bool.{eqb-true, or_left, or_right, or_parts}
-use Rattle.drm_lists.specs.Orders.{SameRows, InOrder}
-use Rattle.drm_lists.specs.Numbers.{is_among, count}
-use Rattle.drm_lists.proofs.Lists.{all_weaker, all_append, filter-same, filter-both, all_both, all_each, filter_all}
-use Rattle.drm_lists.proofs.FoundInLists.{find_others, none_found, on_some}
-use Rattle.drm_lists.proofs.Numbers.{flipped, less-differ, among-more, among-first, among-append, among-differs, count-none, count-absent, count-other, count-it}
-use Rattle.drm_lists.proofs.Orders.{in_order_filter, in_order_append, same-any}
+use Rattle.drm_index_array.specs.Orders.{SameRows, InOrder}
+use Rattle.drm_index_array.specs.Numbers.{is_among, count}
+use Rattle.drm_index_array.proofs.Lists.{all_weaker, all_append, filter-same, filter-both, all_both, all_each, filter_all}
+use Rattle.drm_index_array.proofs.FoundInLists.{find_others, none_found, on_some}
+use Rattle.drm_index_array.proofs.Numbers.{flipped, less-differ, among-more, among-first, among-append, among-differs, count-none, count-absent, count-other, count-it}
+use Rattle.drm_index_array.proofs.Orders.{in_order_filter, in_order_append, same-any}
 use Rattle.drm_gem.specs.declared.object.Object.{Object}
 use Rattle.drm_gem.specs.declared.object.Dead.{Dead}
 use Rattle.drm_gem.specs.Objects.{ObjectSet, is_key, object_at, changed_at, without_key, held, unheld, referred, unreferred, is_unused, dead_of, dead_after}

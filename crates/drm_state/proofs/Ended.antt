@@ -4,14 +4,14 @@ use Rattle.std.specs.Prelude.{if◌then◌else◌}
 use Rattle.std.specs.List.{list_any, AllByRecursion}
 use Rattle.std.specs.Option.{is_some, option_map, option_and_then}
 use Rattle.std.proofs.lemmas.Bool.{eqb-true}
-use Rattle.drm_lists.specs.Orders.{SameRows}
-use Rattle.drm_lists.specs.Chains as chains
-use Rattle.drm_lists.proofs.Chains.{itself}
-use Rattle.drm_lists.proofs.Lists.{all_each, all_weaker, all_both, all_append, all_filter, all_mapped, filter-map, filter_all}
-use Rattle.drm_lists.proofs.FoundInLists.{find-map, find_none, is_some-find, is_some-map}
-use Rattle.drm_lists.proofs.Numbers.{less-differ}
-use Rattle.drm_lists.proofs.Orders.{same-filter}
-use Rattle.drm_lists.proofs.Rising.{found, find_where, any_found, each_is_there}
+use Rattle.drm_index_array.specs.Orders.{SameRows}
+use Rattle.drm_index_array.specs.Chains as chains
+use Rattle.drm_index_array.proofs.Chains.{itself}
+use Rattle.drm_index_array.proofs.Lists.{all_each, all_weaker, all_both, all_append, all_filter, all_mapped, filter-map, filter_all}
+use Rattle.drm_index_array.proofs.FoundInLists.{find-map, find_none, is_some-find, is_some-map}
+use Rattle.drm_index_array.proofs.Numbers.{less-differ}
+use Rattle.drm_index_array.proofs.Orders.{same-filter}
+use Rattle.drm_index_array.proofs.Rising.{found, find_where, any_found, each_is_there}
 use Rattle.drm_masters.specs.declared.rows.Master.{Master}
 use Rattle.drm_masters.specs.declared.rows.Member.{Member}
 use Rattle.drm_masters.specs.Masters as masters

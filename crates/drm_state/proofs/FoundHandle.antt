@@ -1,8 +1,8 @@
 -- What a handle that was looked up represents.
 use Rattle.std.proofs.Common.{◌≡◌, ℕ, true, find, Option, Some, None, refl}
 use Rattle.std.specs.Option.{is_some, option_map}
-use Rattle.drm_lists.specs.Numbers.{is_among}
-use Rattle.drm_lists.proofs.Numbers.{among-left}
+use Rattle.drm_index_array.specs.Numbers.{is_among}
+use Rattle.drm_index_array.proofs.Numbers.{among-left}
 use Rattle.drm_files.specs.declared.rows.FileHandle.{FileHandle}
 use Rattle.drm_files.specs.Files as files
 use Rattle.drm_share.specs.Names as names

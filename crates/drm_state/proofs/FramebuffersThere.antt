@@ -3,12 +3,12 @@ use Rattle.std.proofs.Common.{◌≡◌, ℕ, ◌+◌, ◌==◌, Bool, true, fal
 use Rattle.std.specs.Prelude.{if◌then◌else◌}
 use Rattle.std.specs.List.{list_any, AllByRecursion}
 use Rattle.std.proofs.lemmas.Bool.{eqb-true}
-use Rattle.drm_lists.specs.Orders.{SameRows}
-use Rattle.drm_lists.specs.Numbers.{is_among}
-use Rattle.drm_lists.proofs.Lists.{list_any-map, filter-map, filter_all, filter-same, all_each}
-use Rattle.drm_lists.proofs.FoundInLists.{is_some-find}
-use Rattle.drm_lists.proofs.Numbers.{among-more}
-use Rattle.drm_lists.proofs.Orders.{same-any, same-filter}
+use Rattle.drm_index_array.specs.Orders.{SameRows}
+use Rattle.drm_index_array.specs.Numbers.{is_among}
+use Rattle.drm_index_array.proofs.Lists.{list_any-map, filter-map, filter_all, filter-same, all_each}
+use Rattle.drm_index_array.proofs.FoundInLists.{is_some-find}
+use Rattle.drm_index_array.proofs.Numbers.{among-more}
+use Rattle.drm_index_array.proofs.Orders.{same-any, same-filter}
 use Rattle.drm_gem.specs.declared.object.Object.{Object}
 use Rattle.drm_modes.specs.declared.rows.Framebuffer.{Framebuffer}
 use Rattle.drm_modes.specs.declared.rows.Shown.{Shown}

@@ -6,12 +6,12 @@ use Rattle.std.specs.Option.{is_some, option_map}
 use Rattle.std.proofs.Math.Bool.{and_comm}
 use Rattle.std.proofs.lemmas.Bool.{eqb-true, or_right}
 use Rattle.std.proofs.lemmas.Bool.Decides.{nat_tests}
-use Rattle.drm_lists.specs.Orders.{SameRows}
-use Rattle.drm_lists.specs.Numbers.{is_among}
-use Rattle.drm_lists.proofs.Lists.{all_weaker, all_each, filter_all, filter_true, filter-same, list_any-map, list_any_agree, map-map}
-use Rattle.drm_lists.proofs.FoundInLists.{is_some-find, find_none, find_others}
-use Rattle.drm_lists.proofs.Numbers.{among-left, among-right}
-use Rattle.drm_lists.proofs.Orders.{same-refl, same-sym, same-trans, same-cons, same-swap, same-map, same-any, moved_in}
+use Rattle.drm_index_array.specs.Orders.{SameRows}
+use Rattle.drm_index_array.specs.Numbers.{is_among}
+use Rattle.drm_index_array.proofs.Lists.{all_weaker, all_each, filter_all, filter_true, filter-same, list_any-map, list_any_agree, map-map}
+use Rattle.drm_index_array.proofs.FoundInLists.{is_some-find, find_none, find_others}
+use Rattle.drm_index_array.proofs.Numbers.{among-left, among-right}
+use Rattle.drm_index_array.proofs.Orders.{same-refl, same-sym, same-trans, same-cons, same-swap, same-map, same-any, moved_in}
 use Rattle.drm_index_array.specs.Least.{least}
 use Rattle.drm_index_array.specs.Rows as rows
 use Rattle.drm_index_array.specs.Rows.{placed}

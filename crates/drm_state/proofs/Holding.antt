@@ -3,12 +3,12 @@ use Rattle.std.proofs.Common.{◌≡◌, ℕ, ◌==◌, nat_le, Bool, true, fals
 use Rattle.std.specs.List.{list_any, AllByRecursion}
 use Rattle.std.specs.Option.{option_map}
 use Rattle.std.proofs.lemmas.Bool.Decides.{nat_tests}
-use Rattle.drm_lists.specs.Orders.{SameRows, InOrder}
-use Rattle.drm_lists.specs.Numbers.{is_among}
-use Rattle.drm_lists.proofs.Lists.{all_weaker, all_append, all_filter, filter_true, all_both}
-use Rattle.drm_lists.proofs.FoundInLists.{is_some-find, is_among-map_filter}
-use Rattle.drm_lists.proofs.Orders.{RisesTo, in_order_filter, same-trans, same-refl, same-cons, same-swap, moved_in, same_parts}
-use Rattle.drm_lists.proofs.Placed as lists
+use Rattle.drm_index_array.specs.Orders.{SameRows, InOrder}
+use Rattle.drm_index_array.specs.Numbers.{is_among}
+use Rattle.drm_index_array.proofs.Lists.{all_weaker, all_append, all_filter, filter_true, all_both}
+use Rattle.drm_index_array.proofs.FoundInLists.{is_some-find, is_among-map_filter}
+use Rattle.drm_index_array.proofs.Orders.{RisesTo, in_order_filter, same-trans, same-refl, same-cons, same-swap, moved_in, same_parts}
+use Rattle.drm_index_array.proofs.Placed as lists
 use Rattle.drm_files.specs.declared.rows.FileHandle.{FileHandle}
 use Rattle.drm_files.specs.Files.{FileLists, is_handle, of_client, handle_before, placed, handles_of, free_handle}
 use Rattle.drm_index_array.proofs.Least.{least_some}

@@ -3,9 +3,9 @@
 use Rattle.std.proofs.Common.{◌≡◌, ℕ, suc, ◌==◌, Bool, true, false, not, ◌||◌, List, ◌∷◌, Option, Some, refl, sym, ap, ◌∙◌, arith, eq-eqb}
 use Rattle.std.specs.Option.{option_map, OnSome, IfNone}
 use Rattle.std.proofs.lemmas.Bool.Decides.{nat_tests}
-use Rattle.drm_lists.specs.Numbers.{is_among, count}
-use Rattle.drm_lists.proofs.Lists.{all_weaker, filter-same, filter_all}
-use Rattle.drm_lists.proofs.Numbers.{count-none}
+use Rattle.drm_index_array.specs.Numbers.{is_among, count}
+use Rattle.drm_index_array.proofs.Lists.{all_weaker, filter-same, filter_all}
+use Rattle.drm_index_array.proofs.Numbers.{count-none}
 use Rattle.drm_gem.specs.declared.object.Object.{Object}
 use Rattle.drm_gem.specs.declared.object.Dead.{Dead}
 use Rattle.drm_gem.specs.Objects.{ObjectSet, object_at, changed_at, without_key, unheld, dead_after}

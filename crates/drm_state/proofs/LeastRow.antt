@@ -5,10 +5,10 @@ use Rattle.std.specs.List.{AllByRecursion}
 use Rattle.std.specs.Option.{option_map, option_map_or}
 use Rattle.std.proofs.lemmas.Bool.Decides.{nat_tests}
 use Rattle.drm_index_array.specs.Rows.{InOrder}
-use Rattle.drm_lists.specs.Orders.{SameRows}
-use Rattle.drm_lists.proofs.FoundInLists.{none_found}
-use Rattle.drm_lists.proofs.Lists.{all_weaker, filter_all}
-use Rattle.drm_lists.proofs.Orders.{same-trans, same-refl, same-cons, same-swap}
+use Rattle.drm_index_array.specs.Orders.{SameRows}
+use Rattle.drm_index_array.proofs.FoundInLists.{none_found}
+use Rattle.drm_index_array.proofs.Lists.{all_weaker, filter_all}
+use Rattle.drm_index_array.proofs.Orders.{same-trans, same-refl, same-cons, same-swap}
 
 -- of rows those that the client did not make
 abbrev pub others : {X : Type 0} → (X → ℕ) → ℕ → List X → List X

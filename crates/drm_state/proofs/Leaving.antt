@@ -1,8 +1,8 @@
 -- What is left in more than one step.
 use Rattle.std.proofs.Common.{◌≡◌, ℕ, true, List, refl, sym, ap, ◌∙◌}
-use Rattle.drm_lists.specs.Numbers.{is_among}
-use Rattle.drm_lists.proofs.Lists.{all_each, filter_all, filter-both, filter-same}
-use Rattle.drm_lists.proofs.Numbers.{fewer_among}
+use Rattle.drm_index_array.specs.Numbers.{is_among}
+use Rattle.drm_index_array.proofs.Lists.{all_each, filter_all, filter-both, filter-same}
+use Rattle.drm_index_array.proofs.Numbers.{fewer_among}
 use Rattle.drm_gem.specs.Objects.{ObjectSet}
 use Rattle.drm_share.specs.declared.rows.SharedName.{SharedName}
 use Rattle.drm_share.specs.Names.{NameList}

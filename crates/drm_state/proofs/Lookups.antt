@@ -1,7 +1,7 @@
 -- What look-ups find in the rows, by what they find in the parts.
 use Rattle.std.proofs.Common.{◌≡◌, ℕ, find, None, Some, ◌∙◌, ap, Bool, false, ◌&&◌}
 use Rattle.std.specs.Option.{option_map, option_map_or, is_some}
-use Rattle.drm_lists.proofs.FoundInLists.{find-map, is_some-map}
+use Rattle.drm_index_array.proofs.FoundInLists.{find-map, is_some-map}
 use Rattle.drm_files.specs.declared.rows.FileFlags.{FileFlags}
 use Rattle.drm_files.specs.declared.rows.FileClient.{FileClient}
 use Rattle.drm_files.specs.Files as files

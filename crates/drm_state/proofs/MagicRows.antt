@@ -4,12 +4,12 @@ use Rattle.std.specs.Prelude.{if◌then◌else◌}
 use Rattle.std.specs.List.{list_any, filter_map, cons_option, AllByRecursion}
 use Rattle.std.specs.Option.{is_some, option_map, option_map_or, option_and_then}
 use Rattle.std.proofs.lemmas.Bool.{eqb-true}
-use Rattle.drm_lists.specs.Orders.{SameRows, InOrder}
-use Rattle.drm_lists.proofs.Lists.{all_weaker}
-use Rattle.drm_lists.proofs.FoundInLists.{is_some-find, found-number, find_none}
-use Rattle.drm_lists.proofs.Rising.{all_found}
-use Rattle.drm_lists.proofs.Numbers.{less-differ, flipped}
-use Rattle.drm_lists.proofs.Orders.{same-any}
+use Rattle.drm_index_array.specs.Orders.{SameRows, InOrder}
+use Rattle.drm_index_array.proofs.Lists.{all_weaker}
+use Rattle.drm_index_array.proofs.FoundInLists.{is_some-find, found-number, find_none}
+use Rattle.drm_index_array.proofs.Rising.{all_found}
+use Rattle.drm_index_array.proofs.Numbers.{less-differ, flipped}
+use Rattle.drm_index_array.proofs.Orders.{same-any}
 use Rattle.drm_masters.specs.declared.rows.Magic.{Magic}
 use Rattle.drm_masters.specs.declared.rows.Member.{Member}
 use Rattle.drm_masters.specs.Masters as masters
@@ -19,7 +19,7 @@ use Rattle.drm_state.specs.Parts.{magic_row_of, magics_of}
 use Rattle.drm_state.specs.Invariants.{MeetsInvariants}
 use Rattle.drm_state.specs.Refinement.{Represents}
 use Rattle.drm_state.proofs.Represented.{magics_are, masters_so}
-use Rattle.drm_lists.proofs.Each.{none_passes}
+use Rattle.drm_index_array.proofs.Each.{none_passes}
 
 -- ---- the same for a search, a test and a property: of optional rows it concerns those that exist
 

@@ -5,10 +5,10 @@ use Rattle.std.specs.Option.{is_some, option_map}
 use Rattle.std.proofs.lemmas.Bool.{eqb-true, or_left, or_right}
 use Rattle.std.specs.Cmp.{both_ways}
 use Rattle.std.proofs.lemmas.List.{map-append}
-use Rattle.drm_lists.specs.Orders.{InOrder}
-use Rattle.drm_lists.proofs.Lists.{all_weaker, list_any-map, list_any_left, list_any_right, list_any_gives, some_passing, all_both}
-use Rattle.drm_lists.proofs.FoundInLists.{is_some-find, find_none, find_last, find_others}
-use Rattle.drm_lists.proofs.Numbers.{flipped, less-differ}
+use Rattle.drm_index_array.specs.Orders.{InOrder}
+use Rattle.drm_index_array.proofs.Lists.{all_weaker, list_any-map, list_any_left, list_any_right, list_any_gives, some_passing, all_both}
+use Rattle.drm_index_array.proofs.FoundInLists.{is_some-find, find_none, find_last, find_others}
+use Rattle.drm_index_array.proofs.Numbers.{flipped, less-differ}
 use Rattle.drm_files.specs.declared.rows.FileFlags.{FileFlags}
 use Rattle.drm_files.specs.declared.rows.FileClient.{FileClient}
 use Rattle.drm_files.specs.Files.{is_client}
@@ -16,7 +16,7 @@ use Rattle.drm_model.specs.Rows.{ClientRow, is_option}
 use Rattle.drm_masters.specs.declared.rows.Member.{Member}
 use Rattle.drm_masters.specs.Masters as masters
 use Rattle.drm_masters.specs.Masters.{member_of}
-use Rattle.drm_lists.proofs.Rising.{any_found, all_found}
+use Rattle.drm_index_array.proofs.Rising.{any_found, all_found}
 use Rattle.drm_state.specs.Parts.{client_row_by, client_row_of}
 
 abbrev IsThere : List FileClient → Member → Type 0

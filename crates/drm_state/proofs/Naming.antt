@@ -4,11 +4,11 @@ use Rattle.std.specs.List.{list_any, AllByRecursion}
 use Rattle.std.specs.Prelude.{⊤}
 use Rattle.std.specs.Option.{is_some, option_map_or}
 use Rattle.std.proofs.lemmas.Bool.{eqb-true}
-use Rattle.drm_lists.specs.Orders.{SameRows, InOrder}
-use Rattle.drm_lists.specs.Numbers.{is_among, count}
-use Rattle.drm_lists.proofs.Lists.{all_weaker, map-map, length-filter_append, list_any-map, all_both, all_each}
-use Rattle.drm_lists.proofs.Numbers.{flipped, among-more, count-none, among-first, count_of}
-use Rattle.drm_lists.proofs.Orders.{same-any, same-map}
+use Rattle.drm_index_array.specs.Orders.{SameRows, InOrder}
+use Rattle.drm_index_array.specs.Numbers.{is_among, count}
+use Rattle.drm_index_array.proofs.Lists.{all_weaker, map-map, length-filter_append, list_any-map, all_both, all_each}
+use Rattle.drm_index_array.proofs.Numbers.{flipped, among-more, count-none, among-first, count_of}
+use Rattle.drm_index_array.proofs.Orders.{same-any, same-map}
 use Rattle.std.proofs.lemmas.List.{map-append}
 use Rattle.drm_gem.specs.declared.object.Object.{Object}
 use Rattle.drm_gem.specs.Objects.{is_key}

@@ -5,12 +5,12 @@ use Rattle.std.specs.List.{AllByRecursion}
 use Rattle.std.specs.Option.{is_some, option_map, option_map_or, OnSome}
 use Rattle.std.proofs.lemmas.List.{map-append}
 use Rattle.std.proofs.lemmas.Bool.{and_left, eqb-true}
-use Rattle.drm_lists.specs.Orders.{SameRows}
-use Rattle.drm_lists.specs.Numbers.{is_among}
-use Rattle.drm_lists.proofs.Lists.{all_weaker, list_any-map, all_each}
-use Rattle.drm_lists.proofs.FoundInLists.{is_some-find, is_among-map_filter, find_last, none_found, on_some}
-use Rattle.drm_lists.proofs.Numbers.{among-left, among-right, among-more}
-use Rattle.drm_lists.proofs.Orders.{same-map, same-trans, same-any, same-cons, last_first}
+use Rattle.drm_index_array.specs.Orders.{SameRows}
+use Rattle.drm_index_array.specs.Numbers.{is_among}
+use Rattle.drm_index_array.proofs.Lists.{all_weaker, list_any-map, all_each}
+use Rattle.drm_index_array.proofs.FoundInLists.{is_some-find, is_among-map_filter, find_last, none_found, on_some}
+use Rattle.drm_index_array.proofs.Numbers.{among-left, among-right, among-more}
+use Rattle.drm_index_array.proofs.Orders.{same-map, same-trans, same-any, same-cons, last_first}
 use Rattle.drm_gem.specs.declared.object.Object.{Object}
 use Rattle.drm_gem.specs.declared.object.Dead.{Dead}
 use Rattle.drm_gem.specs.Objects.{ObjectSet, IsNewStepNumber, is_key, object_at, passes, without_key, unheld, is_unused, dead_of, dead_after, new_object}

@@ -1,7 +1,7 @@
 -- The parts of what a state represents, and its invariants, one by one.
 use Rattle.std.proofs.Common.{◌≡◌, ◌≤◌, true}
 use Rattle.std.specs.List.{AllByRecursion}
-use Rattle.drm_lists.specs.Orders.{SameRows, InOrder}
+use Rattle.drm_index_array.specs.Orders.{SameRows, InOrder}
 use Rattle.drm_files.specs.declared.rows.FileHandle.{FileHandle}
 use Rattle.drm_files.specs.Files.{is_open_client, handle_before}
 use Rattle.drm_model.specs.Rows.{Rows}

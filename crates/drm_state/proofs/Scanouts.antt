@@ -6,11 +6,11 @@ use Rattle.std.specs.Option.{is_some, option_map}
 use Rattle.std.proofs.Math.Bool.{or-false, and-true, and-false}
 use Rattle.std.proofs.lemmas.Bool.{eqb-true, ne_eqb}
 use Rattle.std.proofs.lemmas.List.{map-append}
-use Rattle.drm_lists.specs.Orders.{SameRows}
-use Rattle.drm_lists.proofs.Lists.{list_any-map, list_any_agree, filter-map, length-filter_append}
-use Rattle.drm_lists.proofs.FoundInLists.{is_some-find, found-number}
-use Rattle.drm_lists.proofs.Numbers.{flipped, less-differ}
-use Rattle.drm_lists.proofs.Orders.{same-any, same-filter, same-map, same-cons, same-refl, same-trans, last_first}
+use Rattle.drm_index_array.specs.Orders.{SameRows}
+use Rattle.drm_index_array.proofs.Lists.{list_any-map, list_any_agree, filter-map, length-filter_append}
+use Rattle.drm_index_array.proofs.FoundInLists.{is_some-find, found-number}
+use Rattle.drm_index_array.proofs.Numbers.{flipped, less-differ}
+use Rattle.drm_index_array.proofs.Orders.{same-any, same-filter, same-map, same-cons, same-refl, same-trans, last_first}
 use Rattle.drm_modes.specs.declared.rows.Shown.{Shown}
 use Rattle.drm_modes.specs.Modes as modes
 use Rattle.drm_modes.specs.Modes.{ModeSet, AreModes, shown, lit_rows, shown_rows, can_show}

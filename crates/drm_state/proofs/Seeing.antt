@@ -4,9 +4,9 @@ use Rattle.std.specs.Prelude.{nat_le}
 use Rattle.std.specs.Option.{is_some, option_map_or, option_and_then}
 use Rattle.std.proofs.lemmas.Bool.Decides.{nat_tests}
 use Rattle.drm_index_array.specs.Rows as arrays
-use Rattle.drm_lists.specs.Orders.{InOrder}
-use Rattle.drm_lists.proofs.Lists.{all_weaker, filter-map, list_any-map, map-map}
-use Rattle.drm_lists.proofs.Orders.{RisesTo, in_order_filter, in_order_map, same-any, same-filter, same-map, sorted-same, order_of_numbers}
+use Rattle.drm_index_array.specs.Orders.{InOrder}
+use Rattle.drm_index_array.proofs.Lists.{all_weaker, filter-map, list_any-map, map-map}
+use Rattle.drm_index_array.proofs.Orders.{RisesTo, in_order_filter, in_order_map, same-any, same-filter, same-map, sorted-same, order_of_numbers}
 use Rattle.drm_leases.specs.Leases as leases
 use Rattle.drm_modes.specs.declared.rows.Framebuffer.{Framebuffer}
 use Rattle.drm_modes.specs.declared.kinds.Kind.TheVariants.{Crtc, Plane, Connector}

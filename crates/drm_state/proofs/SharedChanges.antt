@@ -6,11 +6,11 @@ use Rattle.std.specs.Option.{option_map, option_map_or, option_or}
 use Rattle.std.proofs.lemmas.Bool.{eqb-true, or_right, lt-ltb}
 use Rattle.std.proofs.lemmas.Bool.Decides.{nat_tests}
 use Rattle.std.proofs.lemmas.List.{length-map, length-append}
-use Rattle.drm_lists.specs.Orders.{SameRows}
-use Rattle.drm_lists.specs.Numbers.{is_among, count}
-use Rattle.drm_lists.proofs.Lists.{filter_all, filter-shorter, all_weaker}
-use Rattle.drm_lists.proofs.Numbers.{among-append, among-left, among-right}
-use Rattle.drm_lists.proofs.Orders.{same-trans, same-refl, same-cons, same-swap, same-map, same-any, last_first, in_order_map, in_order_weaker}
+use Rattle.drm_index_array.specs.Orders.{SameRows}
+use Rattle.drm_index_array.specs.Numbers.{is_among, count}
+use Rattle.drm_index_array.proofs.Lists.{filter_all, filter-shorter, all_weaker}
+use Rattle.drm_index_array.proofs.Numbers.{among-append, among-left, among-right}
+use Rattle.drm_index_array.proofs.Orders.{same-trans, same-refl, same-cons, same-swap, same-map, same-any, last_first, in_order_map, in_order_weaker}
 use Rattle.drm_index_array.specs.Rows.{placed}
 use Rattle.drm_index_array.specs.Rows as rows
 use Rattle.drm_gem.specs.declared.object.Object.{Object}

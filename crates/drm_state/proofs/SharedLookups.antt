@@ -4,12 +4,12 @@ use Rattle.std.specs.Prelude.{unwrap_or}
 use Rattle.std.specs.List.{list_any, filter_map, AllByRecursion}
 use Rattle.std.specs.Option.{is_some, option_map, option_map_or, option_and_then, option_or}
 use Rattle.std.proofs.lemmas.Bool.Decides.{nat_tests}
-use Rattle.drm_lists.specs.Orders.{SameRows}
-use Rattle.drm_lists.specs.Numbers.{is_among}
-use Rattle.drm_lists.proofs.Lists.{filter-map, filter-same, list_any-map, all_weaker, all_each, map-map}
-use Rattle.drm_lists.proofs.FoundInLists.{is_some-find, found-number}
-use Rattle.drm_lists.proofs.Numbers.{among-first, among-more, among-left, among-right}
-use Rattle.drm_lists.proofs.Orders.{same-any, same-filter, same-map}
+use Rattle.drm_index_array.specs.Orders.{SameRows}
+use Rattle.drm_index_array.specs.Numbers.{is_among}
+use Rattle.drm_index_array.proofs.Lists.{filter-map, filter-same, list_any-map, all_weaker, all_each, map-map}
+use Rattle.drm_index_array.proofs.FoundInLists.{is_some-find, found-number}
+use Rattle.drm_index_array.proofs.Numbers.{among-first, among-more, among-left, among-right}
+use Rattle.drm_index_array.proofs.Orders.{same-any, same-filter, same-map}
 use Rattle.drm_index_array.specs.Least.{least, least_of}
 use Rattle.drm_index_array.specs.Rows.{InOrder}
 use Rattle.drm_index_array.proofs.Least.{least-same, least_of-same}

@@ -2,10 +2,10 @@
 use Rattle.std.proofs.Common.{◌≡◌, ℕ, ◌==◌, Bool, false, ◌&&◌, ◌||◌, List, [], ◌∷◌, map, find, filter, Option, None, Some, refl, sym, ◌∙◌, ap}
 use Rattle.std.specs.List.{list_any, AllByRecursion}
 use Rattle.std.specs.Option.{is_some, option_map, option_map_or, option_and_then}
-use Rattle.drm_lists.specs.Chains as chains
-use Rattle.drm_lists.specs.Chains.{top_of}
-use Rattle.drm_lists.proofs.Lists.{all_each, all_weaker, filter-map, list_any-map, filter-same}
-use Rattle.drm_lists.proofs.FoundInLists.{find-map}
+use Rattle.drm_index_array.specs.Chains as chains
+use Rattle.drm_index_array.specs.Chains.{top_of}
+use Rattle.drm_index_array.proofs.Lists.{all_each, all_weaker, filter-map, list_any-map, filter-same}
+use Rattle.drm_index_array.proofs.FoundInLists.{find-map}
 use Rattle.drm_masters.specs.declared.rows.Master.{Master}
 use Rattle.drm_masters.specs.declared.rows.Member.{Member}
 use Rattle.drm_masters.specs.Masters as masters

@@ -5,13 +5,13 @@ use Rattle.std.specs.List.{list_any, filter_map, cons_option, AllByRecursion}
 use Rattle.std.specs.Option.{is_some, option_map, option_map_or}
 use Rattle.std.proofs.Math.Bool.{or_assoc}
 use Rattle.std.proofs.lemmas.Bool.{eqb-true}
-use Rattle.drm_lists.specs.Orders.{SameRows, InOrder}
-use Rattle.drm_lists.specs.Chains as chains
-use Rattle.drm_lists.specs.Numbers.{is_among}
-use Rattle.drm_lists.proofs.Lists.{list_any-map, filter-map, filter_all, all_weaker, filter-same, filter_true, all_both}
-use Rattle.drm_lists.proofs.FoundInLists.{find_others}
-use Rattle.drm_lists.proofs.Numbers.{among-append, among-left, among-right, fewer_among, among-more}
-use Rattle.drm_lists.proofs.Orders.{same-any, same-filter, in_order_filter}
+use Rattle.drm_index_array.specs.Orders.{SameRows, InOrder}
+use Rattle.drm_index_array.specs.Chains as chains
+use Rattle.drm_index_array.specs.Numbers.{is_among}
+use Rattle.drm_index_array.proofs.Lists.{list_any-map, filter-map, filter_all, all_weaker, filter-same, filter_true, all_both}
+use Rattle.drm_index_array.proofs.FoundInLists.{find_others}
+use Rattle.drm_index_array.proofs.Numbers.{among-append, among-left, among-right, fewer_among, among-more}
+use Rattle.drm_index_array.proofs.Orders.{same-any, same-filter, in_order_filter}
 use Rattle.drm_gem.specs.declared.object.Object.{Object}
 use Rattle.drm_gem.specs.Objects.{ObjectSet}
 use Rattle.drm_files.specs.declared.rows.FileHandle.{FileHandle}

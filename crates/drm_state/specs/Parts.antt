@@ -22,7 +22,7 @@ use Rattle.drm_masters.specs.declared.rows.Magic.{Magic}
 use Rattle.drm_masters.specs.declared.rows.Master.{Master}
 use Rattle.drm_masters.specs.declared.rows.Member.{Member}
 use Rattle.drm_masters.specs.Masters.{MasterSet, is_client, member_of, is_option, lessor_of, swept}
-use Rattle.drm_lists.specs.Chains.{is_under}
+use Rattle.drm_index_array.specs.Chains.{is_under}
 use Rattle.drm_masters.specs.Calls.{kept_as}
 use Rattle.drm_leases.specs.declared.rows.Grant.{Grant}
 use Rattle.drm_leases.specs.Tokens.{LeaseToken}

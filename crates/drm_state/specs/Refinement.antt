@@ -1,7 +1,7 @@
 -- The rows that the state of the device represents, and how the function of each event refines the definitions (own).
 use Rattle.std.specs.Prelude.{◌≡◌, ℕ, ◌+◌, false, true, Option, None, Some, Result, Ok, Err}
 use Rattle.std.specs.declared.alloc.AllocError.{AllocError}
-use Rattle.drm_lists.specs.Orders.{SameRows}
+use Rattle.drm_index_array.specs.Orders.{SameRows}
 use Rattle.drm_table.specs.declared.answers.Answer.{Answer}
 use Rattle.drm_table.specs.declared.calls.Call.{Call}
 use Rattle.drm_table.specs.declared.events.Event.{Event}

@@ -1,7 +1,7 @@
 //! Handles of objects that exist.
 
 ghost use Rattle.std.specs.Prelude.{◌≡◌, ◌↔◌, true, None, Some, OnErr, OnOk, IfOk, IfErr, ◌++◌};
-ghost use Rattle.drm_lists.specs.Numbers.{is_among};
+ghost use Rattle.drm_index_array.specs.Numbers.{is_among};
 ghost use Rattle.drm_files.specs.FileFault.{IsFull};
 ghost use Rattle.drm_files.specs.Files.{is_open_client, free_handle, hold, with_handle_row};
 ghost use Rattle.drm_state.specs.Parts.{keys_of, referring_keys};

@@ -12,7 +12,7 @@ use crate::lists::ShownList;
 use crate::rules::Rule;
 
 /// A row of the table of answers: an answer whose number of fields is fixed (own).
-#[derive(Clone, Copy, PartialEq, Eq, Debug)]
+#[derive(Clone, Copy, PartialEq, Debug)]
 pub enum AnswerKind {
     Done,
     Opened,

@@ -14,7 +14,7 @@ use crate::rules::Rule;
 /// let answer = Answer::Number { value: 7 };
 /// assert!(rt; answer != Answer::Done);
 /// ```
-#[derive(PartialEq, Eq, Debug, Drop)]
+#[derive(PartialEq, Debug, Drop)]
 pub enum Answer {
     /// The call was carried out and returns nothing.
     Done,

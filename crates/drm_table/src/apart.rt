@@ -17,7 +17,7 @@ use crate::refusal_rows::{RefusalRow, row};
 /// let fault = Apart::NoMemory;
 /// assert!(rt; fault.errno() == 12);
 /// ```
-#[derive(Clone, Copy, PartialEq, Eq, Debug)]
+#[derive(Clone, Copy, PartialEq, Debug)]
 pub enum Apart {
     /// The journal has no room for the step. The rest of its room is reserved for closings.
     JournalFull,

@@ -15,7 +15,7 @@ use std::marker::Model;
 /// let kind = AuditKind::Object;
 /// assert!(rt; kind.number() == 3);
 /// ```
-#[derive(Clone, Copy, PartialEq, Eq, Debug)]
+#[derive(Clone, Copy, PartialEq, Debug)]
 pub enum AuditKind {
     /// Open clients: client, flags, master, magic.
     Client,
@@ -118,7 +118,7 @@ impl AuditKind {
 }
 
 /// A row of an audit (own). [`AuditKind`] lists the numbers of each kind in order. 0 means none.
-#[derive(Clone, Copy, PartialEq, Eq, Debug, Default)]
+#[derive(Clone, Copy, PartialEq, Debug, Default)]
 pub struct AuditRow {
     /// The first number.
     pub a: u64,
@@ -141,7 +141,7 @@ pub struct AuditRow {
 /// page.push(AuditRow { a: 1, b: 2, c: 0, d: 0 });
 /// assert!(rt; page.rows().len() == 1);
 /// ```
-#[derive(PartialEq, Eq, Debug, Drop)]
+#[derive(PartialEq, Debug, Drop)]
 pub struct AuditPage {
     rows: ArrayVec<AuditRow, 16>,
 }

@@ -25,7 +25,7 @@ use std::alloc::AllocError;
 /// let call = Call::BufCreate { size: 4096 };
 /// assert!(rt; call.number() == 0x40);
 /// ```
-#[derive(PartialEq, Eq, Debug, Drop)]
+#[derive(PartialEq, Debug, Drop)]
 pub enum Call {
     /// A number that no row has.
     Unknown(u16),
@@ -189,7 +189,7 @@ pub enum Call {
 /// assert!(rt; call == Some(Call::GemClose { handle: 1 }));
 /// assert!(rt; CallKind::GemClose.call(&[]).is_none());
 /// ```
-#[derive(Clone, Copy, PartialEq, Eq, Debug)]
+#[derive(Clone, Copy, PartialEq, Debug)]
 pub enum CallKind {
     Version,
     GetMagic,

@@ -13,7 +13,7 @@ use std::alloc::AllocError;
 /// let opening = Opening::Primary { root: true, universal: true };
 /// assert!(rt; opening != Opening::Render);
 /// ```
-#[derive(Clone, Copy, PartialEq, Eq, Debug)]
+#[derive(Clone, Copy, PartialEq, Debug)]
 pub enum Opening {
     /// A primary node, by root (CAP_SYS_ADMIN) or not, with universal planes on or off (drm-uapi). Both as parts of an
     /// opening are own.
@@ -42,7 +42,7 @@ pub enum Opening {
 /// let event = Event::Ask(1, Call::GetMagic);
 /// assert!(rt; event != Event::Close(1));
 /// ```
-#[derive(PartialEq, Eq, Debug, Drop)]
+#[derive(PartialEq, Debug, Drop)]
 pub enum Event {
     /// A client is opened.
     Open(Opening),

@@ -17,7 +17,7 @@ use std::marker::Model;
 ///
 /// assert!(rt; Width::of_ids(2) == [Width::U32, Width::U32].as_slice());
 /// ```
-#[derive(Clone, Copy, PartialEq, Eq, Debug)]
+#[derive(Clone, Copy, PartialEq, Debug)]
 pub enum Width {
     /// 4 bytes.
     U32,
@@ -26,7 +26,7 @@ pub enum Width {
 }
 
 /// A number in a field of its width.
-#[derive(Clone, Copy, PartialEq, Eq, Debug)]
+#[derive(Clone, Copy, PartialEq, Debug)]
 pub enum Field {
     U32(u32),
     U64(u64),
@@ -94,7 +94,7 @@ impl Width {
 /// let fields: Fields<5> = Fields::of(&[Field::U32(1), Field::U64(2)]);
 /// assert!(rt; fields.as_slice().len() == 2);
 /// ```
-#[derive(PartialEq, Eq, Debug, Drop)]
+#[derive(PartialEq, Debug, Drop)]
 pub struct Fields<const N: usize> {
     fields: ArrayVec<Field, N>,
 }

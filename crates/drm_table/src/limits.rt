@@ -14,7 +14,7 @@ ghost use Rattle.drm_table.specs.Limits as ranges;
 /// assert!(rt; are_in_range(limits));
 /// assert!(rt; !are_in_range(Limits { journal: 1, ..Limits::PROGRAM }));
 /// ```
-#[derive(Clone, Copy, PartialEq, Eq, Debug)]
+#[derive(Clone, Copy, PartialEq, Debug)]
 pub struct Limits {
     /// The most clients open at once, of all classes: at most 1,024.
     pub clients: u32,

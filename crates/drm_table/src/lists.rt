@@ -19,7 +19,7 @@ use std::marker::Model;
 /// let list = ShownList::new();
 /// assert!(rt; list.ids().is_empty());
 /// ```
-#[derive(PartialEq, Eq, Debug, Drop)]
+#[derive(PartialEq, Debug, Drop)]
 pub struct ShownList {
     ids: ArrayVec<u32, 64>,
 }
@@ -73,7 +73,7 @@ impl ShownList {
 /// let call = Call::CreateLease { ids };
 /// assert!(rt; call.number() == 0xC6);
 /// ```
-#[derive(PartialEq, Eq, Debug, Drop)]
+#[derive(PartialEq, Debug, Drop)]
 pub struct IdList {
     named: ArrayVec<u32, 32>,
 }

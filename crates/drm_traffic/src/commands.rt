@@ -13,7 +13,7 @@ use std::io::Write;
 pub const MOST_BYTES: usize = 128;
 
 /// What a control line asks for (own).
-#[derive(Clone, Copy, Debug, PartialEq, Eq)]
+#[derive(Clone, Copy, Debug, PartialEq)]
 pub enum Control {
     /// To make a rule.
     Add(Rule),

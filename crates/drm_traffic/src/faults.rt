@@ -18,7 +18,7 @@ pub const WORD: usize = 32;
 /// let Err(fault) = read_rule(RuleKind::Fail, b"create_dumb") else { return };
 /// assert!(rt; fault.cause == RuleCause::Lacks(Wanted::Memory));
 /// ```
-#[derive(Clone, Copy, Debug, PartialEq, Eq)]
+#[derive(Clone, Copy, Debug, PartialEq)]
 pub enum Wanted {
     /// The command of a control line.
     Command,
@@ -48,7 +48,7 @@ impl fmt::Display for Wanted {
 }
 
 /// The reason a rule or a control line can't be used (own).
-#[derive(Clone, Copy, Debug, PartialEq, Eq, Error)]
+#[derive(Clone, Copy, Debug, PartialEq, Error)]
 pub enum RuleCause {
     /// The word of a control line is no command.
     #[error("is no command: fail, stall, break, clear or list")]
@@ -92,7 +92,7 @@ pub enum RuleCause {
 /// let Err(shown) = read_rule(RuleKind::Fail, b"version=memory") else { return };
 /// assert!(rt; shown.word.as_str() == "version");
 /// ```
-#[derive(Clone, Copy, Debug, PartialEq, Eq)]
+#[derive(Clone, Copy, Debug, PartialEq)]
 pub struct RuleFault {
     /// The word at fault: its first 32 bytes, with `?` for a byte that is not printable. Empty if a word is missing or
     /// no word is at fault.

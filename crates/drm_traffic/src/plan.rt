@@ -13,7 +13,7 @@ use std::sync::{Mutex, Wait};
 pub const MOST_RULES: usize = 64;
 
 /// What is done to the answer of a call (own).
-#[derive(Clone, Copy, Debug, PartialEq, Eq)]
+#[derive(Clone, Copy, Debug, PartialEq)]
 pub struct Due {
     /// The delay in milliseconds, if there is one.
     pub millis: Option<u16>,

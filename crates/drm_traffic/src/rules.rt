@@ -18,7 +18,7 @@ const OPEN: &[u8] = b"open";
 const MEMORY: &[u8] = b"memory";
 
 /// The calls that a rule counts (own).
-#[derive(Clone, Copy, Debug, PartialEq, Eq)]
+#[derive(Clone, Copy, Debug, PartialEq)]
 pub enum Calls {
     /// The openings of clients, in any way.
     Openings,
@@ -127,7 +127,7 @@ impl fmt::Display for Calls {
 /// let refusal = Fail { calls: Calls::Openings, nth: 2 };
 /// assert!(rt; refusal.nth == 2);
 /// ```
-#[derive(Clone, Copy, Debug, PartialEq, Eq)]
+#[derive(Clone, Copy, Debug, PartialEq)]
 pub struct Fail {
     /// Calls that can add a row.
     pub calls: Calls,
@@ -136,7 +136,7 @@ pub struct Fail {
 }
 
 /// A rule that delays an answer (own).
-#[derive(Clone, Copy, Debug, PartialEq, Eq)]
+#[derive(Clone, Copy, Debug, PartialEq)]
 pub struct Stall {
     /// The calls that are counted.
     pub calls: Calls,
@@ -147,7 +147,7 @@ pub struct Stall {
 }
 
 /// A rule that closes a connection (own).
-#[derive(Clone, Copy, Debug, PartialEq, Eq)]
+#[derive(Clone, Copy, Debug, PartialEq)]
 pub struct Break {
     /// The number of the client, from 1.
     pub client: u32,
@@ -166,7 +166,7 @@ pub struct Break {
 /// let Ok(text) = format!(in rt.alloc(); "{rule}") else { return };
 /// assert!(rt; text.as_str() == "break 3:9");
 /// ```
-#[derive(Clone, Copy, Debug, PartialEq, Eq)]
+#[derive(Clone, Copy, Debug, PartialEq)]
 pub enum Rule {
     /// Refuses memory to a call.
     Fail(Fail),
@@ -187,7 +187,7 @@ impl fmt::Display for Rule {
 }
 
 /// The kind of a rule (own).
-#[derive(Clone, Copy, Debug, PartialEq, Eq)]
+#[derive(Clone, Copy, Debug, PartialEq)]
 pub enum RuleKind {
     /// Of `fail`.
     Fail,

@@ -2,8 +2,8 @@
 
 use crate::batch::{WatchedCall, WatchedFault};
 use crate::classes::class_word;
+use drm_checks::put_words;
 use drm_device::Device;
-use drm_journals::put_words;
 use drm_script::{LineText, line_of};
 use drm_table::{Answer, Apart};
 use std::alloc::AllocError;
@@ -15,7 +15,7 @@ const RED: &[u8] = b"\x1b[31m";
 const PLAIN: &[u8] = b"\x1b[0m";
 
 /// Whether denials and faults are in colour (own).
-#[derive(Clone, Copy, Debug, PartialEq, Eq)]
+#[derive(Clone, Copy, Debug, PartialEq)]
 pub enum Palette {
     /// No colour.
     Plain,

@@ -1,5 +1,5 @@
 -- What the last gift of a handle and the last publishing under a key say of a history: what is told of it, and chains.
-use Rattle.std.proofs.Common.{◌≡◌, ℕ, Bool, true, false, cond, List, [], ◌∷◌, ◌++◌, Option, None, Some, IfNone, IfSome, is_none, refl, sym, ◌∙◌, ap, subst, arith}
+use Rattle.std.proofs.Common.{◌≡◌, ℕ, Bool, true, false, cond, List, [], ◌∷◌, ◌++◌, Option, None, Some, IfNone, IfOk, IfSome, Result, Ok, Err, is_none, refl, sym, ◌∙◌, ap, subst, arith}
 use Rattle.std.proofs.lemmas.List.{append_assoc}
 use Rattle.std.proofs.lemmas.Bool.{false≢true}
 use Rattle.drm_history.specs.History.{AnsweredEvent, next_number}
@@ -142,6 +142,19 @@ pub leads_to : (history : List AnsweredEvent) (c h o : ℕ) (links : List Link) 
     → LeadsTo history c h o (links_of links)
 leads_to history c h o [] k = k
 leads_to history c h o (link ∷ links) k = (k.0, k.1, explained_is_chain history o (link ∷ links) k.2)
+
+if_none : {A P Q : Type 0} (o : Option A) → (P → Q) → IfNone o P → IfNone o Q
+if_none None step k = step k
+if_none (Some x) step k = k
+
+-- The same of the links that a search found, if it left out none.
+pub lead_to : {E : Type 0} (history : List AnsweredEvent) (c h : ℕ) (found : Result (Option ChainEnd) E)
+    → IfOk found (λ found. IfSome found (λ end. IfNone end.left ((o : ℕ) × Explains history c h o end.links.items)))
+    → IfOk found (λ found. IfSome found (λ end. IfNone end.left ((o : ℕ) × LeadsTo history c h o (links_of end.links.items))))
+lead_to history c h (Err fault) k = k
+lead_to history c h (Ok None) k = k
+lead_to history c h (Ok (Some end)) k =
+    if_none end.left (λ e. (e.0, leads_to history c h e.0 end.links.items e.1)) k
 
 -- The links that explain a handle explain the object that it is of.
 pub is_explained : (history : List AnsweredEvent) (c h o : ℕ) (links : List Link) → Explains history c h o links

@@ -14,7 +14,7 @@ use Rattle.std.proofs.lemmas.Map.Keys.{below_from_sorted, sorted_head, sorted_ta
 use Rattle.std.proofs.lemmas.List.{length-map}
 use Rattle.std.proofs.Math.Bool.{or-false}
 use Rattle.std.proofs.Math.ListN.{get_or-map}
-use Rattle.drm_lists.proofs.Lists.{map-map}
+use Rattle.drm_index_array.proofs.Lists.{map-map}
 use Rattle.std.specs.Option.{is_some}
 use Rattle.std.proofs.lemmas.List.{take_more}
 use Rattle.drm_model.specs.Rows.{is_option}

@@ -3,7 +3,7 @@ use Rattle.std.proofs.Common.{◌≡◌, ℕ, ◌==◌, Bool, true, false, cond,
 use Rattle.std.specs.List.{list_any}
 use Rattle.std.proofs.lemmas.Bool.{eqb-true}
 use Rattle.std.proofs.lemmas.List.{reverse-append}
-use Rattle.drm_lists.specs.Numbers.{is_among}
+use Rattle.drm_index_array.specs.Numbers.{is_among}
 
 -- A search of the newest note that passes finds the last note if it passes, and else searches those before it.
 pub find-newest : {X : Type 0} (p : X → Bool) (notes : List X) (note : X)

@@ -16,8 +16,8 @@ use Rattle.drm_trails.specs.Steps.{entry_of, followed_by, history_of}
 use Rattle.drm_trails.specs.Searches.{AreTouched, concerns, gift_behind, gift_or, is_touch_before, last_gift, source_for, touch_by, touch_in, touch_in_event, touch_in_step, touched_by}
 use Rattle.drm_trails.specs.declared.searches.Touch.{Touch}
 use Rattle.drm_trails.specs.declared.steps.Step.{Step}
-use Rattle.drm_lists.proofs.Lists.{all_append, all_weaker}
-use Rattle.drm_lists.proofs.Orders.{in_order_append}
+use Rattle.drm_index_array.proofs.Lists.{all_append, all_weaker}
+use Rattle.drm_index_array.proofs.Orders.{in_order_append}
 use Rattle.drm_trails.proofs.HistoryLemmas.{followed_by-append}
 use Rattle.drm_trails.proofs.NoteLemmas.{append-none, find-newest}
 use Rattle.drm_trails.proofs.TrailLemmas.{found_before, lt_of, no_steps}

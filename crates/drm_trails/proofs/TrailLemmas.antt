@@ -9,8 +9,8 @@ use Rattle.drm_trails.specs.Searches.{AreNoted, is_before, last_sharing, publica
 use Rattle.drm_trails.specs.declared.searches.Publication.{Publication}
 use Rattle.drm_trails.specs.declared.steps.Publishing.{Publishing as PublishedHandle}
 use Rattle.drm_trails.specs.declared.steps.Step.{Step}
-use Rattle.drm_lists.proofs.Lists.{all_append, all_weaker}
-use Rattle.drm_lists.proofs.Orders.{in_order_append}
+use Rattle.drm_index_array.proofs.Lists.{all_append, all_weaker}
+use Rattle.drm_index_array.proofs.Orders.{in_order_append}
 use Rattle.drm_trails.proofs.HistoryLemmas.{followed_by-append}
 use Rattle.drm_trails.proofs.NoteLemmas.{append-none, find-newest}
 

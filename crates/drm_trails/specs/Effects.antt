@@ -7,7 +7,7 @@ use Rattle.drm_table.specs.declared.calls.Call.TheVariants.{CreateLease}
 use Rattle.drm_table.specs.declared.events.Event.{Event}
 use Rattle.drm_table.specs.declared.events.Event.TheVariants.{Ask}
 use Rattle.drm_model.specs.ClientCapabilities.{opening_capabilities}
-use Rattle.drm_authority.specs.Effects as told
+use Rattle.drm_history.specs.Effects as told
 use Rattle.drm_trails.specs.declared.effects.Effect.{Effect}
 use Rattle.drm_trails.specs.declared.effects.Effect.TheVariants as effects
 

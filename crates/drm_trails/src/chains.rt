@@ -1,8 +1,8 @@
 //! How a client obtained the handle of an object.
 
-ghost use Rattle.std.specs.Prelude.{◌≡◌, ℕ, [], true, is_none, take, IfOk, IfSome, IfNone};
+ghost use Rattle.std.specs.Prelude.{ℕ, take, IfOk, IfSome, IfNone};
 ghost use Rattle.drm_trails.specs.Steps.{history_of};
-ghost use Rattle.drm_trails.specs.Chains.{EndsChain, Explains, HasNone, IsExplained, IsOfDevice, LeadsTo, links_of};
+ghost use Rattle.drm_trails.specs.Chains.{EndsChain, Explains, HasNone, IsOfDevice};
 ghost use Rattle.drm_trails.specs.Searches.{AreNoted, AreTouched};
 
 use crate::searches::{Publication, Touch, last_giving, publication_before};
@@ -10,7 +10,7 @@ use crate::steps::{Key, Source, Step};
 use std::alloc::{AllocError, Global};
 
 /// The source of a link's object (own).
-#[derive(Clone, Copy, PartialEq, Eq, Debug)]
+#[derive(Clone, Copy, PartialEq, Debug)]
 pub enum Origin {
     /// The link's step created the object.
     Made,
@@ -19,7 +19,7 @@ pub enum Origin {
 }
 
 /// A step that assigned a handle to a client (own).
-#[derive(Clone, Copy, PartialEq, Eq, Debug)]
+#[derive(Clone, Copy, PartialEq, Debug)]
 pub struct Link {
     /// The number of the step, from 1.
     pub step: u64,
@@ -41,7 +41,7 @@ pub struct Link {
 /// let then = HandleThen { count: 4, client: 1, handle: 1, step: 2 };
 /// assert!(rt; then.step == 2);
 /// ```
-#[derive(Clone, Copy, PartialEq, Eq, Debug)]
+#[derive(Clone, Copy, PartialEq, Debug)]
 pub struct HandleThen {
     /// The number of steps.
     pub count: usize,
@@ -71,7 +71,7 @@ pub struct HandleThen {
 /// let Some(end) = found else { return };
 /// assert!(rt; end.left.is_none());
 /// ```
-#[derive(PartialEq, Eq, Debug, Drop)]
+#[derive(PartialEq, Debug, Drop)]
 pub struct ChainEnd {
     /// The links. The one that leads to the handle is first.
     pub links: Vec<Link>,
@@ -89,11 +89,7 @@ pub struct Marks<'a> {
 }
 
 impl Marks<'_> {
-    ghost use Rattle.std.specs.Prelude.{◌≡◌, [], false};
-
-    fn leaves_out(&self, past: usize, found: usize) -> bool
-        ensures { self.now.steps.now ≡ [] → result ≡ false }
-    {
+    fn leaves_out(&self, past: usize, found: usize) -> bool {
         match self.steps.get(past) {
             Some(is_marked) => found >= self.kept && *is_marked,
             None => false,
@@ -101,8 +97,8 @@ impl Marks<'_> {
     }
 }
 
-/// Returns what `chain_in` returns, without the links that the marks leave out. It returns `None` if the client has no
-/// such handle.
+/// Returns the steps by which a client obtained a handle, as of the first `count` steps, without the links that the marks
+/// leave out. It returns `None` if the client has no such handle.
 pub(crate) fn chain_end_in(
     alloc: Global,
     steps: &[Step],
@@ -117,7 +113,6 @@ pub(crate) fn chain_end_in(
     requires touched { AreTouched steps.now touches.now }
     ensures whole { IfOk result (λ found. IfSome found (λ end. IfNone end.left ((o : ℕ) × Explains (history_of (take count steps.now)) client handle o end.links.items))) }
     ensures front { IfOk result (λ found. IfSome found (λ end. IfSome end.left (λ left. EndsChain (history_of (take count steps.now)) (history_of (take left.count steps.now)) client handle left.client left.handle end.links.items))) }
-    ensures all { marks.entry.steps.now ≡ [] → IfOk result (λ found. IfSome found (λ end. is_none end.left ≡ true)) }
     ensures none { IfOk result (λ found. IfNone found (IsOfDevice (history_of (take count steps.now)) → HasNone (history_of (take count steps.now)) client handle)) }
 {
     let mut links = Vec::new(alloc);
@@ -169,43 +164,5 @@ pub(crate) fn chain_end_in(
                 held = publishing.handle;
             }
         }
-    }
-}
-
-/// Returns the steps by which a client obtained a handle, as of the first `count` steps. The first link is the step
-/// that assigned the handle. Each further link is the step that assigned it to the client that published it. The last
-/// link is the step that created the object. It returns `None` if the client has no such handle.
-pub(crate) fn chain_in(
-    alloc: Global,
-    steps: &[Step],
-    publications: &[Publication],
-    touches: &[Touch],
-    count: usize,
-    client: u64,
-    handle: u64,
-) -> Result<Option<Vec<Link>>, AllocError>
-    requires noted { AreNoted steps.now publications.now }
-    requires touched { AreTouched steps.now touches.now }
-    ensures chain { IfOk result (λ found. IfSome found (λ links. (o : ℕ) × LeadsTo (history_of (take count steps.now)) client handle o (links_of links.items))) }
-    ensures origins { IfOk result (λ found. IfSome found (λ links. (o : ℕ) × IsExplained (history_of (take count steps.now)) o links.items)) }
-    ensures none { IfOk result (λ found. IfNone found (IsOfDevice (history_of (take count steps.now)) → HasNone (history_of (take count steps.now)) client handle)) }
-{
-    let marks = Marks {
-        steps: &[],
-        kept: 0,
-    };
-    let found = chain_end_in(
-        alloc,
-        steps,
-        publications,
-        touches,
-        count,
-        client,
-        handle,
-        marks,
-    )?;
-    match found {
-        Some(end) => Ok(Some(end.links)),
-        None => Ok(None),
     }
 }

@@ -2,7 +2,7 @@
 //! magics; drm-uapi, leases, render nodes and client capabilities).
 
 ghost use Rattle.std.specs.Prelude.{◌≡◌, ℕ, List};
-ghost use Rattle.drm_authority.specs.Effects as told;
+ghost use Rattle.drm_history.specs.Effects as told;
 ghost use Rattle.drm_table.specs.declared.calls.Call.TheVariants.{CreateLease, GetMagic};
 ghost use Rattle.drm_table.specs.declared.events.Event.TheVariants.{Ask};
 ghost use Rattle.drm_trails.specs.Effects as effects;
@@ -22,7 +22,7 @@ use drm_table::{Answer, Call, Event, Opening};
 /// let effect = Effect::Closes { client: 1 };
 /// assert!(rt; effect != Effect::Nothing);
 /// ```
-#[derive(Clone, Copy, PartialEq, Eq, Debug)]
+#[derive(Clone, Copy, PartialEq, Debug)]
 pub enum Effect {
     Nothing,
     OpensPrimary {
@@ -162,12 +162,12 @@ fn is_opened(answer: &Answer) -> bool
 
 impl Step {
     ghost use Rattle.std.specs.Prelude.{◌≡◌};
-    ghost use Rattle.drm_authority.specs.Effects.{effect};
+    ghost use Rattle.drm_history.specs.Effects.{effect};
     ghost use Rattle.drm_trails.specs.Effects.{effect_of, leased_by};
     ghost use Rattle.drm_trails.specs.Steps.{entry_of};
 
     /// Returns the effect of the step. Does not allocate.
-    #[tactic(auto, unfolding(drm_authority::specs::Effects::effect))]
+    #[tactic(auto, unfolding(drm_history::specs::Effects::effect))]
     pub fn effect(&self) -> Effect
         ensures { effect_of (leased_by self.now.event self.now.answer) result ≡ effect (entry_of self.now) }
     {

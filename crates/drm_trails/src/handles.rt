@@ -23,7 +23,7 @@ use std::collections::BTreeMap;
 /// let held = Held { handle: 1, step: 2 };
 /// assert!(rt; held.handle == 1);
 /// ```
-#[derive(Clone, Copy, PartialEq, Eq, Debug)]
+#[derive(Clone, Copy, PartialEq, Debug)]
 pub struct Held {
     /// The handle.
     pub handle: u64,

@@ -20,7 +20,7 @@ pub(crate) struct LastGiving {
 }
 
 /// The last step that published under a key (own).
-#[derive(Clone, Copy, PartialEq, Eq, Debug)]
+#[derive(Clone, Copy, PartialEq, Debug)]
 pub struct LastPublishing {
     /// The number of steps before it.
     pub past: usize,

@@ -12,7 +12,7 @@ ghost use Rattle.drm_trails.specs.Steps.{givings_of, key_of, publishings_of, sou
 use drm_table::{Answer, Call, Event};
 
 /// A step: an event and its answer (own).
-#[derive(PartialEq, Eq, Debug, Drop)]
+#[derive(PartialEq, Debug, Drop)]
 pub struct Step {
     /// The event.
     pub event: Event,
@@ -44,7 +44,7 @@ pub fn step_at(steps: &[Step], number: u64) -> Option<&Step>
 
 /// A key under which an object is published: a global name (drm-gem(7)), a PRIME token (drm-mm; tokens are own), or a
 /// framebuffer (drm-uapi).
-#[derive(Clone, Copy, PartialEq, Eq, Debug)]
+#[derive(Clone, Copy, PartialEq, Debug)]
 pub enum Key {
     Name(u64),
     Token(u64),
@@ -52,14 +52,14 @@ pub enum Key {
 }
 
 /// The source of a handle's object: the step creates it, or it was published under a key (own).
-#[derive(Clone, Copy, PartialEq, Eq, Debug)]
+#[derive(Clone, Copy, PartialEq, Debug)]
 pub enum Source {
     Creation,
     Transfer(Key),
 }
 
 /// A handle that a step assigns to a client (own).
-#[derive(Clone, Copy, PartialEq, Eq, Debug)]
+#[derive(Clone, Copy, PartialEq, Debug)]
 pub struct Giving {
     /// The client.
     pub client: u64,
@@ -79,7 +79,7 @@ pub struct Giving {
 /// let publishing = Publishing { key: Key::Name(5), client: 1, handle: 1 };
 /// assert!(rt; publishing.handle == 1);
 /// ```
-#[derive(Clone, Copy, PartialEq, Eq, Debug)]
+#[derive(Clone, Copy, PartialEq, Debug)]
 pub struct Publishing {
     /// The key under which it is published.
     pub key: Key,

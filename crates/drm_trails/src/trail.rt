@@ -2,13 +2,13 @@
 
 ghost use Rattle.std.specs.Prelude.{◌≡◌, ◌++◌, ◌∷◌, ℕ, [], true, take, IfOk, IfSome, IfNone};
 ghost use Rattle.drm_history.specs.Holds.{Has};
-ghost use Rattle.drm_trails.specs.Chains.{EndsChain, Explains, HasNone, IsExplained, IsOfDevice, LeadsTo, links_of};
+ghost use Rattle.drm_trails.specs.Chains.{EndsChain, Explains, HasNone, IsOfDevice, LeadsTo, links_of};
 ghost use Rattle.drm_trails.specs.Handles.{is_given_at};
 ghost use Rattle.drm_trails.specs.Objects as objects;
 ghost use Rattle.drm_trails.specs.Searches.{last_gift};
 ghost use Rattle.drm_trails.specs.Steps.{givings_of, history_of};
 
-use crate::chains::{ChainEnd, Link, Marks, chain_end_in, chain_in};
+use crate::chains::{ChainEnd, Marks, chain_end_in};
 use crate::items::with_item;
 use crate::objects::{object_assigned_in, object_given, object_held};
 use crate::searches::{Publication, Touch, publication_of, touch_of};
@@ -25,17 +25,18 @@ use std::marker::Model;
 ///
 /// ```rust
 /// use drm_table::{Answer, Call, Event};
-/// use drm_trails::{Link, Origin, Step, Trail};
+/// use drm_trails::{Link, Marks, Origin, Step, Trail};
 ///
 /// let alloc = rt.alloc();
 /// let call = Call::BufCreate { size: 4096 };
 /// let answer = Answer::Buffer { handle: 1, size: 4096 };
 /// let step = Step { event: Event::Ask(1, call), answer };
 /// let Ok(trail) = Trail::new(alloc).push(step) else { return };
-/// let Ok(found) = trail.chain_of(alloc, 1, 1, 1) else { return };
-/// let Some(links) = found else { return };
+/// let marks = Marks { steps: &[], kept: 0 };
+/// let Ok(found) = trail.chain_end_of(alloc, 1, 1, 1, marks) else { return };
+/// let Some(end) = found else { return };
 /// let link = Link { step: 1, client: 1, handle: 1, origin: Origin::Made };
-/// assert!(rt; links.as_slice() == [link].as_slice());
+/// assert!(rt; end.links.as_slice() == [link].as_slice());
 /// ```
 #[derive(Drop)]
 pub struct Trail {
@@ -143,38 +144,12 @@ impl Trail {
         &self.steps
     }
 
-    /// Returns the chain of steps by which a client obtained a handle, or `None` if the client has no such handle.
+    /// Returns the chain of steps by which a client obtained a handle, without the links that the marks leave out, or
+    /// `None` if the client has no such handle.
     ///
     /// The chain is as of the first `count` steps, or of all if there are fewer. The first link is the step that
     /// assigned the handle. Each further link is the step that assigned the object's handle to the client that
-    /// published it. The last link is the step that created the object. Allocates the links.
-    ///
-    /// # Errors
-    ///
-    /// `AllocError` if memory is refused.
-    pub fn chain_of(
-        &self,
-        alloc: Global,
-        count: usize,
-        client: u64,
-        handle: u64,
-    ) -> Result<Option<Vec<Link>>, AllocError>
-        ensures chain { IfOk result (λ found. IfSome found (λ links. (o : ℕ) × LeadsTo (history_of (take count self.now)) client handle o (links_of links.items))) }
-        ensures origins { IfOk result (λ found. IfSome found (λ links. (o : ℕ) × IsExplained (history_of (take count self.now)) o links.items)) }
-        ensures none { IfOk result (λ found. IfNone found (IsOfDevice (history_of (take count self.now)) → HasNone (history_of (take count self.now)) client handle)) }
-    {
-        chain_in(
-            alloc,
-            &self.steps,
-            &self.publications,
-            &self.touches,
-            count,
-            client,
-            handle,
-        )
-    }
-
-    /// Returns what `chain_of` returns, without the links that the marks leave out.
+    /// published it. The last link is the step that created the object.
     ///
     /// The search for a link starts from the link that it leads to, or for the first from `count`. On the way it looks
     /// only at steps that published, or that assigned or took a handle. Allocates the links.
@@ -191,6 +166,7 @@ impl Trail {
         marks: Marks<'_>,
     ) -> Result<Option<ChainEnd>, AllocError>
         ensures whole { IfOk result (λ found. IfSome found (λ end. IfNone end.left ((o : ℕ) × Explains (history_of (take count self.now)) client handle o end.links.items))) }
+        ensures chain { IfOk result (λ found. IfSome found (λ end. IfNone end.left ((o : ℕ) × LeadsTo (history_of (take count self.now)) client handle o (links_of end.links.items)))) }
         ensures front { IfOk result (λ found. IfSome found (λ end. IfSome end.left (λ left. EndsChain (history_of (take count self.now)) (history_of (take left.count self.now)) client handle left.client left.handle end.links.items))) }
         ensures none { IfOk result (λ found. IfNone found (IsOfDevice (history_of (take count self.now)) → HasNone (history_of (take count self.now)) client handle)) }
     {

@@ -50,7 +50,7 @@ const LOOKS: u32 = 1_500;
 const PATIENCE: u32 = 64;
 
 /// The error that memory for a shared device was refused.
-#[derive(Clone, Copy, Debug, PartialEq, Eq)]
+#[derive(Clone, Copy, Debug, PartialEq)]
 pub struct NoMemory;
 
 /// A ticket was drawn that was not passed on.
@@ -73,7 +73,7 @@ pub struct NoMemory;
 ///     Err(TurnOut) => return,
 /// }
 /// ```
-#[derive(Clone, Copy, Debug, PartialEq, Eq)]
+#[derive(Clone, Copy, Debug, PartialEq)]
 pub struct TurnOut;
 
 /// A device that threads share by reference. Each call has the device alone (own). Contracts see the name that it shares

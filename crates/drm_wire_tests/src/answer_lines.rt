@@ -3,7 +3,7 @@
 use crate::comparing::same;
 use drm_script::line_of;
 use drm_table::{Answer, Apart};
-use drm_test_cases::{list_of, page_of, resources_of, row};
+use drm_test_support::{list_of, page_of, resources_of, row};
 
 fn length_of(outcome: &Result<Answer, Apart>) -> usize {
     line_of(outcome).as_bytes().len()

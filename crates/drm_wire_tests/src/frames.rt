@@ -10,7 +10,7 @@ use drm_frames::{
 };
 use drm_script::line_of;
 use drm_table::{Answer, Apart, Call};
-use drm_test_cases::{list_of, page_of, resources_of, row};
+use drm_test_support::{list_of, page_of, resources_of, row};
 
 /// The frame that is all of the bytes.
 fn frame_in(bytes: &[u8]) -> Option<Frame<'_>> {

@@ -3,8 +3,8 @@ ghost use Rattle.std.specs.Prelude.{◌+◌, ◌<◌, ◌^◌};
 
 use crate::comparing::same;
 use arrayvec::ArrayVec;
-use drm_streams::{Refill, Sink, Written, put_all, take_some};
-use drm_test_streams::{Cut, CutSource, sink_of, source_of};
+use drm_frames::{Refill, Sink, Written, put_all, take_some};
+use drm_test_support::{Cut, CutSource, sink_of, source_of};
 use std::process::Abort;
 
 const TEXT: &[u8] = b"one frame and one more";

@@ -1,6 +1,6 @@
 //! Sources and sinks over std's readers and writers.
 
-use drm_streams::{
+use drm_frames::{
     FromRead, Put, Refill, Sink, Source, Taken, ToWrite, Written, put_all, take_some,
 };
 use std::alloc::Global;

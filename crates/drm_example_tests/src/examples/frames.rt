@@ -1,8 +1,9 @@
 //! The examples of `drm_frames`, made by `tools/doc_examples` of its doc comments.
 
 use drm_frames::{
-    AnswerText, Decoded, Frame, Hello, answer_of, call_of, decode, encode_answer, encode_call,
-    encode_hello, hello_of, read_call,
+    AnswerText, Decoded, Frame, FromRead, Hello, Put, Refill, Sink, Source, Taken, ToWrite,
+    Written, answer_of, call_of, decode, encode_answer, encode_call, encode_hello, hello_of,
+    put_all, put_each, read_call, take_some,
 };
 use drm_table::{Answer, Call};
 
@@ -39,6 +40,41 @@ fn part_1(rt: HostRuntime) {
     assert!(rt; frame.as_slice() == [6, 0, 0, 0, 0x09, 0x00, 1, 0, 0, 0].as_slice());
     assert!(rt; answer_of(&Frame::new(0x1000, &[])) == Some(Ok(Answer::Done)));
     assert!(rt; answer_of(&Frame::new(0x02, &[])).is_none());
+    let mut sink = ToWrite::new(Vec::new(rt.alloc()));
+    assert!(rt; sink.put(b"frame") == Put::Took(5));
+    let mut sink = ToWrite::new(Vec::new(rt.alloc()));
+    sink.put(b"fra");
+    sink.put(b"me");
+    assert!(rt; sink.calls() == 2);
+    let mut source = FromRead::new(b"frame".as_slice());
+    let mut buffer = [0; 8];
+    assert!(rt; source.take(&mut buffer) == Taken::Got(5));
+}
+
+#[test]
+fn part_2(rt: HostRuntime) {
+    let mut source = FromRead::new(b"frame".as_slice());
+    let mut buffer = [0; 8];
+    source.take(&mut buffer);
+    assert!(rt; source.calls() == 1);
     let frame = encode_call(&Call::GetMagic);
     assert!(rt; frame.as_slice().len() == 6);
+    let mut sink = ToWrite::new(Vec::new(rt.alloc()));
+    let mut turns = 10;
+    let texts = [b"fra".as_slice(), b"me".as_slice()];
+    assert!(rt; put_each(&mut sink, texts.as_slice(), &mut turns) == Written::Whole);
+    assert!(rt; turns == 8);
+    let mut source = FromRead::new(b"".as_slice());
+    let mut buffer = [0; 8];
+    let mut turns = 0;
+    assert!(rt; take_some(&mut source, &mut buffer, &mut turns) == Refill::TurnsUsed);
+    let mut source = FromRead::new(b"frame".as_slice());
+    let mut buffer = [0; 8];
+    let mut turns = 10;
+    assert!(rt; take_some(&mut source, &mut buffer, &mut turns) == Refill::Got(5));
+    assert!(rt; turns == 9);
+    let mut sink = ToWrite::new(Vec::new(rt.alloc()));
+    let mut turns = 10;
+    assert!(rt; put_all(&mut sink, b"frame", &mut turns) == Written::Whole);
+    assert!(rt; sink.into_inner().as_slice() == b"frame".as_slice());
 }

@@ -124,10 +124,14 @@ fn part_4(rt: HostRuntime) {
     let Ok(trail) = Trail::new(alloc).push(step) else {
         panic!(rt; "refused")
     };
-    let Ok(found) = trail.chain_of(alloc, 1, 1, 1) else {
+    let marks = Marks {
+        steps: &[],
+        kept: 0,
+    };
+    let Ok(found) = trail.chain_end_of(alloc, 1, 1, 1, marks) else {
         panic!(rt; "refused")
     };
-    let Some(links) = found else {
+    let Some(end) = found else {
         panic!(rt; "refused")
     };
     let link = Link {
@@ -136,5 +140,5 @@ fn part_4(rt: HostRuntime) {
         handle: 1,
         origin: Origin::Made,
     };
-    assert!(rt; links.as_slice() == [link].as_slice());
+    assert!(rt; end.links.as_slice() == [link].as_slice());
 }

@@ -1,7 +1,7 @@
 //! The examples of `drm_server`, made by `tools/doc_examples` of its doc comments.
 
+use drm_frames::ToWrite;
 use drm_server::{ListEnd, Setup, list_audit, outcome_of_listing};
-use drm_streams::ToWrite;
 
 #[test]
 fn part_1(rt: HostRuntime) {

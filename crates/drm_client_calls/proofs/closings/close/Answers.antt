@@ -3,8 +3,8 @@ use Rattle.std.specs.Option.{is_some}
 use Rattle.drm_table.specs.declared.answers.Answer.TheVariants.{Closed}
 use Rattle.drm_table.specs.declared.events.Event.TheVariants.{Close}
 use Rattle.drm_table.specs.declared.rules.Rule.TheVariants.{NoClient}
-use Rattle.drm_lists.specs.Numbers.{is_among}
-use Rattle.drm_lists.proofs.Numbers.{among-append, among-left, among-right}
+use Rattle.drm_index_array.specs.Numbers.{is_among}
+use Rattle.drm_index_array.proofs.Numbers.{among-append, among-left, among-right}
 use Rattle.drm_files.specs.Files.{FileLists, of_client, without_client}
 use Rattle.drm_share.specs.Tokens.{TokenList}
 use Rattle.drm_model.specs.Rows.{is_open}

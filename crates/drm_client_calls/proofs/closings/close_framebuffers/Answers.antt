@@ -1,6 +1,6 @@
 use Rattle.std.proofs.Common.{ℕ, List, ◌∷◌, ◌++◌, refl, sym, ap, ◌∙◌, subst}
-use Rattle.drm_lists.specs.Orders.{SameRows}
-use Rattle.drm_lists.proofs.Orders.{same-refl, same-trans}
+use Rattle.drm_index_array.specs.Orders.{SameRows}
+use Rattle.drm_index_array.proofs.Orders.{same-refl, same-trans}
 use Rattle.drm_gem.specs.Objects.{ObjectSet}
 use Rattle.drm_modes.specs.declared.rows.Framebuffer.{Framebuffer}
 use Rattle.drm_modes.specs.Modes.{ModeSet}

@@ -1,8 +1,8 @@
 use Rattle.std.proofs.Common.{◌≡◌, ℕ, true, ◌==◌, List, ◌∷◌, ◌++◌, sym, ap, ◌∙◌, subst}
-use Rattle.drm_lists.specs.Numbers.{is_among}
-use Rattle.drm_lists.proofs.Lists.{all_weaker}
-use Rattle.drm_lists.proofs.Numbers.{among-more}
-use Rattle.drm_lists.proofs.Orders.{same-any}
+use Rattle.drm_index_array.specs.Numbers.{is_among}
+use Rattle.drm_index_array.proofs.Lists.{all_weaker}
+use Rattle.drm_index_array.proofs.Numbers.{among-more}
+use Rattle.drm_index_array.proofs.Orders.{same-any}
 use Rattle.drm_gem.specs.Objects.{ObjectSet}
 use Rattle.drm_files.specs.Files.{FileLists, left_by, without_client}
 use Rattle.drm_share.specs.declared.rows.SharedName.{SharedName}

@@ -3,7 +3,7 @@ use Rattle.std.specs.Option.{is_some, option_map, option_and_then}
 use Rattle.std.proofs.lemmas.Bool.{eqb-true}
 use Rattle.std.proofs.lemmas.Option.{none-some, same_Some}
 use Rattle.std.proofs.lemmas.Result.{err_from_is_err_and}
-use Rattle.drm_lists.proofs.Rising.{found}
+use Rattle.drm_index_array.proofs.Rising.{found}
 use Rattle.drm_table.specs.declared.answers.Answer.TheVariants.{Opened}
 use Rattle.drm_table.specs.declared.events.Event.TheVariants.{Open}
 use Rattle.drm_table.specs.declared.events.Opening.TheVariants.{Lease}

@@ -1,7 +1,7 @@
 use Rattle.std.proofs.Common.{◌≡◌, true, ◌∙◌, sym}
-use Rattle.drm_lists.specs.Numbers.{is_among}
-use Rattle.drm_lists.proofs.FoundInLists.{all_at}
-use Rattle.drm_lists.proofs.Numbers.{among-right}
+use Rattle.drm_index_array.specs.Numbers.{is_among}
+use Rattle.drm_index_array.proofs.FoundInLists.{all_at}
+use Rattle.drm_index_array.proofs.Numbers.{among-right}
 use Rattle.drm_modes.specs.declared.rows.Framebuffer.{Framebuffer}
 use Rattle.drm_state.specs.Parts.{keys_of, token_keys, framebuffer_keys, referring_keys}
 use Rattle.drm_state.proofs.Represented.{objects_counted}

@@ -1,4 +1,4 @@
-use Rattle.drm_lists.proofs.Numbers.{among-left}
+use Rattle.drm_index_array.proofs.Numbers.{among-left}
 use Rattle.drm_state.specs.Parts.{keys_of, referring_keys}
 use Rattle.drm_state.proofs.Represented.{objects_counted}
 use Rattle.drm_device.proofs.AuditRows.{hold_row}

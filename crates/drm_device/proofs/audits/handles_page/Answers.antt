@@ -1,6 +1,6 @@
 use Rattle.std.proofs.Common.{◌≡◌, ◌+◌, None, Some, [], ◌∷◌, ◌++◌, map, take, drop, length, length-append, sym, ◌∙◌, ap, arith}
 use Rattle.std.specs.Prelude.{slice_get}
-use Rattle.drm_lists.proofs.Pages.{page-more, page-end}
+use Rattle.drm_index_array.proofs.Pages.{page-more, page-end}
 use Rattle.drm_model.specs.Audit.{handle_audit}
 use Rattle.drm_state.specs.Parts.{holds_of}
 use Rattle.drm_state.proofs.Represented.{holds_rise}

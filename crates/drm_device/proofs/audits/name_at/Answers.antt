@@ -1,6 +1,6 @@
 use Rattle.std.proofs.Common.{◌≡◌, ◌++◌, true, ◌∙◌, sym}
-use Rattle.drm_lists.specs.Numbers.{is_among}
-use Rattle.drm_lists.proofs.FoundInLists.{all_at}
+use Rattle.drm_index_array.specs.Numbers.{is_among}
+use Rattle.drm_index_array.proofs.FoundInLists.{all_at}
 use Rattle.drm_share.specs.declared.rows.SharedName.{SharedName}
 use Rattle.drm_state.specs.Parts.{keys_of, referring_keys}
 use Rattle.drm_state.proofs.Represented.{objects_counted}

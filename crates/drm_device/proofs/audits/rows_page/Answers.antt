@@ -1,5 +1,5 @@
 use Rattle.std.proofs.Common.{◌≡◌, ◌+◌, [], ◌∷◌, ◌++◌, take, drop, length, length-append, ◌∙◌, ap, arith}
-use Rattle.drm_lists.proofs.Pages.{page-more, page-end}
+use Rattle.drm_index_array.proofs.Pages.{page-more, page-end}
 use Rattle.drm_model.specs.Audit.{audit_rows, rising_rows, audit_page}
 use Rattle.drm_device.specs.Audits.{IsPage, IsRowAt}
 use Rattle.drm_device.proofs.audits.rows_page.Goals as goal

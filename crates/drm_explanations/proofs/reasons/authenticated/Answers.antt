@@ -1,8 +1,8 @@
 use Rattle.std.proofs.Common.{◌≡◌, false, ◌||◌, length, sym, ap, ◌∙◌, subst}
 use Rattle.std.specs.Prelude.{IfSome}
 use Rattle.std.specs.Option.{is_some}
-use Rattle.drm_authority.specs.Magics.{is_named_in, is_root_in}
-use Rattle.drm_authority.specs.MasterState.{is_master_in}
+use Rattle.drm_history.specs.Magics.{is_named_in, is_root_in}
+use Rattle.drm_history.specs.MasterState.{is_master_in}
 use Rattle.drm_rights.specs.declared.notes.Authentication.{Authentication}
 use Rattle.drm_rights.specs.declared.notes.MasterState.{MasterState}
 use Rattle.drm_explanations.proofs.WithinLemmas.{IsStep, authentication_within, named_is_found, not_missing, root_within, state_within}

@@ -2,8 +2,8 @@ use Rattle.std.proofs.Common.{◌≡◌, ◌+◌, ◌-◌, ◌<◌, ◌≤◌, l
 use Rattle.std.proofs.lemmas.Bool.Decides.{nat_tests}
 use Rattle.std.proofs.lemmas.List.{get_or-drop, length-drop, take_all}
 use Rattle.std.specs.List.{slice_range}
-use Rattle.drm_authority.specs.Closings.{closes}
-use Rattle.drm_authority.specs.Effects.{effect}
+use Rattle.drm_history.specs.Closings.{closes}
+use Rattle.drm_history.specs.Effects.{effect}
 use Rattle.drm_history.specs.History.{AnsweredEvent}
 use Rattle.drm_trails.specs.Passing.{first_step_after}
 use Rattle.drm_trails.specs.Steps.{history_of}

@@ -1,6 +1,6 @@
 use Rattle.std.proofs.Common.{◌≡◌, ◌+◌, drop, take, None}
-use Rattle.drm_authority.specs.Closings.{closes}
-use Rattle.drm_authority.specs.Effects.{effect}
+use Rattle.drm_history.specs.Closings.{closes}
+use Rattle.drm_history.specs.Effects.{effect}
 use Rattle.drm_trails.specs.Passing.{first_step_after}
 use Rattle.drm_trails.specs.Steps.{history_of}
 use Rattle.drm_explanations.proofs.reasons.closed_at.Given as goal

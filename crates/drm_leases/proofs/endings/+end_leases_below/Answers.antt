@@ -1,5 +1,5 @@
 use Rattle.std.proofs.Common.{◌≡◌, true, refl, sym, ◌∙◌, arith}
-use Rattle.drm_lists.proofs.Lists.{all_each, filter_all}
+use Rattle.drm_index_array.proofs.Lists.{all_each, filter_all}
 use Rattle.drm_masters.specs.Masters.{lessees_of}
 use Rattle.drm_leases.specs.declared.rows.Lease.{Lease}
 use Rattle.drm_leases.proofs.Below.{its_lessee, one_ended, all_taken, position_within}

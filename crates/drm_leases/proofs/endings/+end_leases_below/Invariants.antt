@@ -1,6 +1,6 @@
 use Rattle.std.proofs.Common.{◌≡◌, ℕ, ◌-◌, Bool, not, List, filter, length, take}
 use Rattle.std.specs.List.{list_any}
-use Rattle.drm_lists.specs.Chains.{is_under}
+use Rattle.drm_index_array.specs.Chains.{is_under}
 use Rattle.drm_masters.specs.Masters.{lessor_of, lessees_of}
 use Rattle.drm_masters.specs.declared.rows.Master.{Master}
 use Rattle.drm_leases.specs.declared.rows.Lease.{Lease}

@@ -2,8 +2,8 @@ use Rattle.std.proofs.Common.{◌≡◌, ℕ, ◌==◌, Bool, true, false, not, 
 use Rattle.std.specs.Prelude.{slice_get}
 use Rattle.std.specs.List.{list_any}
 use Rattle.std.proofs.lemmas.Bool.{eqb-true, false≢true, and_parts, and_from}
-use Rattle.drm_lists.specs.Chains.{is_under}
-use Rattle.drm_lists.proofs.Chains.{itself}
+use Rattle.drm_index_array.specs.Chains.{is_under}
+use Rattle.drm_index_array.proofs.Chains.{itself}
 use Rattle.drm_masters.specs.Masters.{lessor_of, lessees_of, is_below}
 use Rattle.drm_masters.proofs.Looked.{any_pushed}
 use Rattle.drm_leases.specs.Leases.{has_token}

@@ -1,6 +1,6 @@
 use Rattle.std.proofs.Common.{◌≡◌, ℕ, ◌-◌, true, false, length, take}
 use Rattle.std.specs.List.{list_any}
-use Rattle.drm_lists.specs.Chains.{is_under}
+use Rattle.drm_index_array.specs.Chains.{is_under}
 use Rattle.drm_masters.specs.Masters.{lessor_of, lessees_of}
 use Rattle.drm_leases.specs.Leases.{has_token}
 use Rattle.drm_leases.proofs.endings.+open_below.Given as goal

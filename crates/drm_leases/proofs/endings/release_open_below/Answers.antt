@@ -1,6 +1,6 @@
 use Rattle.std.proofs.Common.{◌<◌, List, length, refl, ap, sym, subst, ◌∙◌}
 use Rattle.std.proofs.lemmas.Bool.{and_parts}
-use Rattle.drm_lists.proofs.Lists.{filter-fewer}
+use Rattle.drm_index_array.proofs.Lists.{filter-fewer}
 use Rattle.drm_masters.specs.Masters.{is_below}
 use Rattle.drm_leases.specs.Tokens.{LeaseToken, TokenRows}
 use Rattle.drm_leases.specs.Leases.{is_token_of, has_token}

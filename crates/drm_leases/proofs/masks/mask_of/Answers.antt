@@ -1,8 +1,8 @@
 use Rattle.std.proofs.Common.{◌==◌, ◌<◌, ◌||◌, length, get_or, take, ap, sym, ◌∙◌, arith}
 use Rattle.std.proofs.lemmas.List.{take_more}
 use Rattle.std.proofs.lemmas.Option.{slice_get-get_or}
-use Rattle.drm_lists.specs.Numbers.{is_among}
-use Rattle.drm_lists.proofs.FoundInLists.{all_at}
+use Rattle.drm_index_array.specs.Numbers.{is_among}
+use Rattle.drm_index_array.proofs.FoundInLists.{all_at}
 use Rattle.drm_leases.specs.Masks.{IsFixed}
 use Rattle.drm_leases.proofs.Bits.{empty_mask, one_set, among_pushed}
 use Rattle.drm_leases.proofs.masks.mask_of.Goals as goal

@@ -1,5 +1,5 @@
 use Rattle.std.proofs.Common.{◌≡◌, ℕ, take}
-use Rattle.drm_lists.specs.Numbers.{is_among}
+use Rattle.drm_index_array.specs.Numbers.{is_among}
 use Rattle.drm_leases.specs.Masks.{has_object}
 use Rattle.drm_leases.proofs.masks.mask_of.Given as goal
 

@@ -1,6 +1,6 @@
 use Rattle.std.proofs.Common.{◌≤◌, ◌++◌, ap, sym, subst, ◌∙◌, arith}
 use Rattle.std.specs.List.{AllByRecursion}
-use Rattle.drm_lists.specs.Numbers.{is_among}
+use Rattle.drm_index_array.specs.Numbers.{is_among}
 use Rattle.drm_modes.specs.Topology.{object_count}
 use Rattle.drm_leases.specs.Masks.{IsFixed}
 use Rattle.drm_leases.proofs.Bits.{are_fixed, mask_objects}

@@ -18,7 +18,7 @@ use Rattle.drm_leases.specs.Agreed.{AreAgreed}
 use Rattle.drm_leases.proofs.Agreeing.{agreed_changed}
 use Rattle.drm_state.proofs.Represented.{members_open, leases_agree}
 use Rattle.drm_files.specs.Files.{is_open_client}
-use Rattle.drm_lists.proofs.Rising.{found, all_found}
+use Rattle.drm_index_array.proofs.Rising.{found, all_found}
 use Rattle.drm_masters.specs.declared.rows.Member.{Member}
 use Rattle.drm_state.proofs.Callers.{caller_file, its_master}
 use Rattle.drm_master_calls.proofs.Callers.{opens}

@@ -1,5 +1,5 @@
 use Rattle.std.proofs.Common.{◌+◌, ap, sym, ◌∙◌, arith}
-use Rattle.drm_lists.proofs.Chains.{depth_none, depth_some, depth_low}
+use Rattle.drm_index_array.proofs.Chains.{depth_none, depth_some, depth_low}
 use Rattle.drm_masters.specs.Masters.{lessor_of}
 use Rattle.drm_masters.proofs.MasterChains.{falls}
 use Rattle.drm_masters.proofs.searches.+depth_of.Goals as goal

@@ -1,5 +1,5 @@
 use Rattle.std.proofs.Common.{sym, ◌∙◌, arith}
-use Rattle.drm_lists.proofs.Chains.{top_none, top_some}
+use Rattle.drm_index_array.proofs.Chains.{top_none, top_some}
 use Rattle.drm_masters.specs.Masters.{lessor_of}
 use Rattle.drm_masters.proofs.MasterChains.{falls}
 use Rattle.drm_masters.proofs.searches.+owner_of.Goals as goal

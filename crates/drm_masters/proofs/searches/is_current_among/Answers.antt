@@ -1,6 +1,6 @@
 use Rattle.std.proofs.Common.{◌≡◌, true, ◌&&◌, None, sym, ap, ◌∙◌}
 use Rattle.std.proofs.Math.Bool.{and-true}
-use Rattle.drm_lists.proofs.Chains.{top_none}
+use Rattle.drm_index_array.proofs.Chains.{top_none}
 use Rattle.drm_masters.specs.Masters.{is_option, lessor_of}
 use Rattle.drm_masters.proofs.MasterChains.{is_this}
 use Rattle.drm_masters.proofs.searches.is_current_among.Goals as goal

@@ -1,7 +1,7 @@
 use Rattle.std.proofs.Common.{◌≡◌, ◌<◌, true, false, not, filter, is_some, Option, None, Some, sym, ap, subst, ◌∙◌, arith}
 use Rattle.std.specs.List.{list_any, AllByRecursion}
 use Rattle.std.proofs.lemmas.Bool.{eqb-true, false≢true}
-use Rattle.drm_lists.specs.Orders.{InOrder}
+use Rattle.drm_index_array.specs.Orders.{InOrder}
 use Rattle.drm_masters.specs.declared.rows.Master.{Master}
 use Rattle.drm_masters.specs.Masters.{is_step_number, is_option, is_used, is_living, master_at, HasOlderLessor}
 use Rattle.drm_masters.proofs.MasterChains.{falls}

@@ -2,7 +2,7 @@ use Rattle.std.proofs.Common.{◌≡◌, ℕ, Bool, ◌++◌, [], ◌∷◌, ◌
 use Rattle.std.specs.Prelude.{unwrap_or}
 use Rattle.std.proofs.lemmas.Bool.{false≢true}
 use Rattle.std.specs.Option.{is_some, option_map}
-use Rattle.drm_lists.proofs.Numbers.{among-left}
+use Rattle.drm_index_array.proofs.Numbers.{among-left}
 use Rattle.drm_table.specs.declared.answers.Answer.TheVariants.{Number}
 use Rattle.drm_table.specs.declared.calls.Call.{Call}
 use Rattle.drm_table.specs.declared.calls.Call.TheVariants.{AddFb}
@@ -12,7 +12,7 @@ use Rattle.drm_modes.specs.Modes as modes
 use Rattle.drm_modes.specs.Modes.{AreModes, framebuffer, with_framebuffer}
 use Rattle.drm_modes.specs.AddFbFault.{IsFull}
 use Rattle.drm_modes.specs.declared.rows.Shape.{Shape}
-use Rattle.drm_lists.specs.Numbers.{is_among}
+use Rattle.drm_index_array.specs.Numbers.{is_among}
 use Rattle.drm_files.specs.declared.rows.FileHandle.{FileHandle}
 use Rattle.drm_files.specs.Files as files
 use Rattle.drm_model.specs.Sharing.{size_of}

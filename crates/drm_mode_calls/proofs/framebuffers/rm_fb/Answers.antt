@@ -4,7 +4,7 @@ use Rattle.drm_table.specs.declared.answers.Answer.TheVariants.{Done}
 use Rattle.drm_table.specs.declared.calls.Call.TheVariants.{RmFb}
 use Rattle.drm_table.specs.declared.events.Event.TheVariants.{Ask}
 use Rattle.drm_table.specs.declared.rules.Rule.TheVariants.{NoFb}
-use Rattle.drm_lists.proofs.FoundInLists.{is_some-map}
+use Rattle.drm_index_array.proofs.FoundInLists.{is_some-map}
 use Rattle.drm_modes.specs.declared.rows.Framebuffer.{Framebuffer}
 use Rattle.drm_modes.specs.Modes as modes
 use Rattle.drm_modes.specs.Modes.{AreModes}

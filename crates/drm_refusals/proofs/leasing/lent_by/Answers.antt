@@ -2,7 +2,7 @@ use Rattle.std.proofs.Common.{◌≡◌, ℕ, Bool, not, ◌∙◌, ap}
 use Rattle.std.specs.List.{list_all}
 use Rattle.std.proofs.lemmas.Bool.{or_parts}
 use Rattle.std.proofs.lemmas.Result.{IfOk-weaker}
-use Rattle.drm_authority.specs.Lessees.{granted}
+use Rattle.drm_history.specs.Lessees.{granted}
 use Rattle.drm_refusals.specs.Kinds as kinds
 use Rattle.drm_refusals.proofs.LoopLemmas.{found_both}
 use Rattle.drm_refusals.proofs.leasing.lent_by.Goals as goal

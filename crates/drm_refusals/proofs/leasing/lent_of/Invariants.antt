@@ -1,7 +1,7 @@
 use Rattle.std.proofs.Common.{◌≡◌, Bool, false, take, All}
 use Rattle.std.specs.List.{list_all}
 use Rattle.std.specs.Prelude.{not}
-use Rattle.drm_authority.specs.Lessees.{granted}
+use Rattle.drm_history.specs.Lessees.{granted}
 use Rattle.drm_refusals.specs.declared.facts.Fact.{Fact}
 use Rattle.drm_refusals.specs.Facts as facts
 use Rattle.drm_refusals.specs.Kinds as kinds

@@ -1,5 +1,5 @@
 use Rattle.std.proofs.Common.{get_or, take, arith}
-use Rattle.drm_lists.specs.Numbers.{is_among}
+use Rattle.drm_index_array.specs.Numbers.{is_among}
 use Rattle.drm_refusals.specs.Kinds as kinds
 use Rattle.drm_refusals.proofs.LoopLemmas.{once_more, shown_or}
 use Rattle.drm_refusals.proofs.leasing.repeated_of.Goals as goal

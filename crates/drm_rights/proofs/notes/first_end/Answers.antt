@@ -1,7 +1,7 @@
 use Rattle.std.proofs.Common.{◌≡◌, ◌&&◌, false, get_or, find, sym, ap, ◌∙◌, arith}
 use Rattle.std.specs.Prelude.{nat_lt}
 use Rattle.std.proofs.lemmas.Bool.Decides.{nat_tests}
-use Rattle.drm_lists.specs.Chains.{is_under}
+use Rattle.drm_index_array.specs.Chains.{is_under}
 use Rattle.drm_rights.specs.Leases.{is_ended_by, lessor_noted}
 use Rattle.drm_trails.proofs.RisingLemmas.{find_from}
 use Rattle.drm_rights.proofs.notes.first_end.Goals as goal

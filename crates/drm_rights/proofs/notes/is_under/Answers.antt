@@ -1,7 +1,7 @@
 use Rattle.std.proofs.Common.{◌≡◌, ◌==◌, ◌||◌, false, sym, ◌∙◌, ap, arith}
 use Rattle.std.proofs.lemmas.Bool.Decides.{nat_tests}
-use Rattle.drm_lists.specs.Chains as chains
-use Rattle.drm_lists.proofs.Chains.{itself, under_none, under_some}
+use Rattle.drm_index_array.specs.Chains as chains
+use Rattle.drm_index_array.proofs.Chains.{itself, under_none, under_some}
 use Rattle.drm_rights.specs.Leases.{lessor_noted}
 use Rattle.drm_rights.proofs.LeaseLemmas.{noted_falls}
 use Rattle.drm_rights.proofs.notes.is_under.Goals as goal

@@ -1,5 +1,5 @@
 use Rattle.std.proofs.Common.{◌≡◌}
-use Rattle.drm_lists.specs.Chains as chains
+use Rattle.drm_index_array.specs.Chains as chains
 use Rattle.drm_rights.specs.Leases.{lessor_noted}
 use Rattle.drm_rights.proofs.notes.is_under.Given as goal
 

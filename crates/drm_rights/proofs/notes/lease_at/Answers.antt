@@ -2,7 +2,7 @@ use Rattle.std.proofs.Common.{◌≡◌, ◌<◌, ◌≤◌, ◌==◌, length, S
 use Rattle.std.specs.Prelude.{slice_get}
 use Rattle.std.proofs.lemmas.Bool.{ne_eqb}
 use Rattle.std.proofs.lemmas.Option.{slice_get-get_or, get_or_from_slice_get}
-use Rattle.drm_lists.proofs.Orders.{in_order_weaker}
+use Rattle.drm_index_array.proofs.Orders.{in_order_weaker}
 use Rattle.drm_rights.specs.declared.notes.Lease.{Lease}
 use Rattle.drm_trails.proofs.RisingLemmas.{up, find_from, find_there, find_no_more, one_newest, not_less}
 use Rattle.drm_rights.proofs.notes.lease_at.Goals as goal

@@ -1,6 +1,6 @@
 use Rattle.std.proofs.Common.{◌<◌, ◌≤◌, leb, leb-true, arith, rules}
 use Rattle.std.proofs.lemmas.List.Sorted.{IsPartitionPoint-from_clause, IsPartitionedBy-leb}
-use Rattle.drm_lists.proofs.Orders.{in_order_weaker}
+use Rattle.drm_index_array.proofs.Orders.{in_order_weaker}
 use Rattle.drm_rights.specs.declared.notes.End.{End}
 use Rattle.drm_trails.proofs.RisingLemmas.{up}
 use Rattle.drm_rights.proofs.notes.older_ends.Goals as goal

@@ -1,6 +1,6 @@
 use Rattle.std.proofs.Common.{◌<◌, ◌≤◌, ltb, ltb-true, ltb-false, arith, rules}
 use Rattle.std.proofs.lemmas.List.Sorted.{IsPartitionPoint-from_clause, IsPartitionedBy-ltb}
-use Rattle.drm_lists.proofs.Orders.{in_order_weaker}
+use Rattle.drm_index_array.proofs.Orders.{in_order_weaker}
 use Rattle.drm_rights.specs.declared.notes.Lease.{Lease}
 use Rattle.drm_trails.proofs.RisingLemmas.{up}
 use Rattle.drm_rights.proofs.notes.older_leases.Goals as goal

@@ -1,5 +1,5 @@
 use Rattle.std.proofs.Common.{sym, ◌∙◌}
-use Rattle.drm_lists.proofs.Chains.{top_none, top_some}
+use Rattle.drm_index_array.proofs.Chains.{top_none, top_some}
 use Rattle.drm_rights.specs.Leases.{lessor_noted}
 use Rattle.drm_rights.proofs.LeaseLemmas.{noted_falls}
 use Rattle.drm_rights.proofs.notes.top_of.Goals as goal

@@ -2,11 +2,11 @@ use Rattle.std.proofs.Common.{refl, subst, take, drop, suc, arith}
 use Rattle.std.specs.List.{flat_map}
 use Rattle.drm_table.specs.Audits.{kinds}
 use Rattle.drm_model.specs.Run.{rows_of}
-use Rattle.drm_streams.specs.Turns.{WriteCost}
-use Rattle.drm_streams.specs.declared.turns.Written.TheVariants as written
+use Rattle.drm_frames.specs.Turns.{WriteCost}
+use Rattle.drm_frames.specs.declared.turns.Written.TheVariants as written
 use Rattle.drm_server.specs.Listing.{kind_text, audit_text}
-use Rattle.drm_streams.proofs.Traces.{WriteCost-none, WriteCost-then}
-use Rattle.drm_streams.proofs.TextLemmas.{stops, next-text, whole-text, all-taken}
+use Rattle.drm_frames.proofs.Traces.{WriteCost-none, WriteCost-then}
+use Rattle.drm_frames.proofs.TextLemmas.{stops, next-text, whole-text, all-taken}
 use Rattle.drm_server.proofs.ListingLemmas.{listed, listed-fault, listed-turns}
 use Rattle.drm_server.proofs.listing.list_audit.Goals as goal
 

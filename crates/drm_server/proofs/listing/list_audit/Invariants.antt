@@ -2,7 +2,7 @@ use Rattle.std.proofs.Common.{◌≡◌, take}
 use Rattle.std.specs.List.{flat_map}
 use Rattle.drm_model.specs.Run.{rows_of}
 use Rattle.drm_table.specs.Audits.{kinds}
-use Rattle.drm_streams.specs.Turns.{WriteCost}
+use Rattle.drm_frames.specs.Turns.{WriteCost}
 use Rattle.drm_server.specs.Listing.{kind_text}
 use Rattle.drm_server.proofs.listing.list_audit.Given as goal
 

@@ -4,11 +4,11 @@ use Rattle.std.proofs.lemmas.Bool.{eqb-true}
 use Rattle.drm_table.specs.declared.audits.AuditRow.{AuditRow}
 use Rattle.drm_model.specs.Audit.{audit_rows, rising_rows, audit_page}
 use Rattle.drm_model.specs.Run.{rows_of}
-use Rattle.drm_streams.specs.Turns.{WriteCost}
+use Rattle.drm_frames.specs.Turns.{WriteCost}
 use Rattle.drm_script.specs.Lines as lines
-use Rattle.drm_streams.specs.Texts.{WritesOut}
-use Rattle.drm_streams.proofs.Traces.{WriteCost-none, WriteCost-then}
-use Rattle.drm_streams.proofs.TextLemmas.{stops, all-taken}
+use Rattle.drm_frames.specs.Texts.{WritesOut}
+use Rattle.drm_frames.proofs.Traces.{WriteCost-none, WriteCost-then}
+use Rattle.drm_frames.proofs.TextLemmas.{stops, all-taken}
 use Rattle.drm_server.proofs.ListingLemmas.{next-page, whole-page, last-page}
 use Rattle.drm_server.proofs.listing.list_kind.Goals as goal
 

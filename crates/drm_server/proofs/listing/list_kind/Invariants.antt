@@ -2,7 +2,7 @@ use Rattle.std.proofs.Common.{◌<◌, ◌*◌, ◌^◌, take, length}
 use Rattle.std.specs.List.{flat_map}
 use Rattle.drm_model.specs.Audit.{audit_rows, rising_rows}
 use Rattle.drm_model.specs.Run.{rows_of}
-use Rattle.drm_streams.specs.Turns.{WriteCost}
+use Rattle.drm_frames.specs.Turns.{WriteCost}
 use Rattle.drm_script.specs.Lines as lines
 use Rattle.drm_server.proofs.listing.list_kind.Given as goal
 

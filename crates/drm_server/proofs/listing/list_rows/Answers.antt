@@ -1,9 +1,9 @@
 use Rattle.std.proofs.Common.{◌∙◌, subst, take, drop, arith, suc}
 use Rattle.std.specs.List.{flat_map}
-use Rattle.drm_streams.specs.Turns.{WriteCost, Writes}
+use Rattle.drm_frames.specs.Turns.{WriteCost, Writes}
 use Rattle.drm_script.specs.Lines as lines
-use Rattle.drm_streams.proofs.Traces.{WriteCost-none, WriteCost-then}
-use Rattle.drm_streams.proofs.TextLemmas.{stops, writes_out, next-text, whole-text, all-taken}
+use Rattle.drm_frames.proofs.Traces.{WriteCost-none, WriteCost-then}
+use Rattle.drm_frames.proofs.TextLemmas.{stops, writes_out, next-text, whole-text, all-taken}
 use Rattle.drm_server.proofs.listing.list_rows.Goals as goal
 
 pub loop-row-init : goal.loop-row-init

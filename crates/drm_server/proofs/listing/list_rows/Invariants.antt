@@ -1,6 +1,6 @@
 use Rattle.std.proofs.Common.{take}
 use Rattle.std.specs.List.{flat_map}
-use Rattle.drm_streams.specs.Turns.{WriteCost}
+use Rattle.drm_frames.specs.Turns.{WriteCost}
 use Rattle.drm_script.specs.Lines as lines
 use Rattle.drm_server.proofs.listing.list_rows.Given as goal
 

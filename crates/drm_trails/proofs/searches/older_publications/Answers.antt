@@ -1,6 +1,6 @@
 use Rattle.std.proofs.Common.{◌<◌, ◌≤◌, ltb, ltb-false, arith, rules}
 use Rattle.std.proofs.lemmas.List.Sorted.{IsPartitionPoint-from_clause, IsPartitionedBy-ltb}
-use Rattle.drm_lists.proofs.Orders.{in_order_weaker}
+use Rattle.drm_index_array.proofs.Orders.{in_order_weaker}
 use Rattle.drm_trails.specs.declared.searches.Publication.{Publication}
 use Rattle.drm_trails.proofs.RisingLemmas.{up}
 use Rattle.drm_trails.proofs.searches.older_publications.Goals as goal

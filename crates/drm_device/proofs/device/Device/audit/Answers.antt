@@ -1,5 +1,5 @@
 use Rattle.std.proofs.Common.{◌^◌, ◌<◌, length, sym, ◌∙◌, arith}
-use Rattle.drm_lists.proofs.Orders.{length-sorted}
+use Rattle.drm_index_array.proofs.Orders.{length-sorted}
 use Rattle.drm_model.specs.Audit.{audit_rows, is_before, rising_rows}
 use Rattle.drm_model.specs.Run.{rows_of}
 use Rattle.drm_model.proofs.StepNumbers.{step_numbers_rise}

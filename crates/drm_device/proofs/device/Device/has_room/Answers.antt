@@ -1,6 +1,6 @@
 use Rattle.std.proofs.Common.{sym, ◌∙◌, ap, find}
 use Rattle.std.specs.Option.{is_some}
-use Rattle.drm_lists.proofs.FoundInLists.{is_some-map}
+use Rattle.drm_index_array.proofs.FoundInLists.{is_some-map}
 use Rattle.drm_files.specs.Files.{is_client}
 use Rattle.drm_model.specs.Run.{rows_of}
 use Rattle.drm_device.proofs.Devices.{room_to_open, room_to_ask, room_to_close_open, room_to_close}

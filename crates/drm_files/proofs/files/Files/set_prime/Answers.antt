@@ -1,7 +1,7 @@
 use Rattle.std.proofs.Common.{◌≡◌, Some, refl, ap, sym, ◌∙◌}
 use Rattle.std.specs.FinMap.{insert}
 use Rattle.std.specs.Option.{option_or}
-use Rattle.drm_lists.proofs.FoundInLists.{is_some-false}
+use Rattle.drm_index_array.proofs.FoundInLists.{is_some-false}
 use Rattle.drm_index_array.proofs.MarkedLemmas.{insert_same}
 use Rattle.drm_files.specs.Files.{FileLists, with_export_order}
 use Rattle.drm_files.proofs.ListsAfterCalls.{given}

@@ -1,5 +1,5 @@
 use Rattle.std.proofs.Common.{subst, ◌∙◌}
-use Rattle.drm_lists.proofs.FoundInLists.{is_some-false}
+use Rattle.drm_index_array.proofs.FoundInLists.{is_some-false}
 use Rattle.drm_files.specs.ExportOrders.{AreJoined}
 use Rattle.drm_files.proofs.InOrder.{forgotten_placed, forgotten_unplaced, some_of}
 use Rattle.drm_files.proofs.orders.ExportOrders.forget.Goals as goal

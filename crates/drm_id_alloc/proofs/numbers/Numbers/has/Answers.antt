@@ -2,7 +2,7 @@ use Rattle.std.proofs.Common.{◌≡◌, sym, ap, ◌∙◌}
 use Rattle.drm_id_alloc.specs.Kept.{array_of}
 use Rattle.drm_id_alloc.proofs.NumberLemmas.{single, single_has}
 use Rattle.drm_id_alloc.proofs.numbers.Numbers.has.Goals as goal
-use Rattle.drm_lists.proofs.Numbers.{same_either}
+use Rattle.drm_index_array.proofs.Numbers.{same_either}
 
 pub returns-in-One : goal.returns-in-One
 returns-in-One c =

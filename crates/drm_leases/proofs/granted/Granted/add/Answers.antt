@@ -4,8 +4,8 @@ use Rattle.std.specs.List.{AllByRecursion}
 use Rattle.drm_id_alloc.proofs.TableLemmas.{taken_back}
 use Rattle.drm_index_array.specs.Indexed.{Indexed}
 use Rattle.drm_index_array.specs.Rows.{placed}
-use Rattle.drm_lists.specs.Orders.{InOrder}
-use Rattle.drm_lists.proofs.Placed.{all_placed}
+use Rattle.drm_index_array.specs.Orders.{InOrder}
+use Rattle.drm_index_array.proofs.Placed.{all_placed}
 use Rattle.drm_leases.specs.declared.rows.LeaseRecord.{LeaseRecord}
 use Rattle.drm_leases.specs.declared.rows.Lease.{Lease}
 use Rattle.drm_leases.specs.Masks.{LeaseRows, has_object, lease, lease_before, leases_in, is_lent, IsFull, AreApart}

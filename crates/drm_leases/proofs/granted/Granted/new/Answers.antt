@@ -1,7 +1,7 @@
 use Rattle.std.proofs.Common.{ℕ, ap, sym, subst, ◌∙◌}
 use Rattle.std.specs.List.{AllByRecursion}
 use Rattle.drm_index_array.specs.Indexed.{Indexed}
-use Rattle.drm_lists.specs.Orders.{InOrder}
+use Rattle.drm_index_array.specs.Orders.{InOrder}
 use Rattle.drm_leases.specs.declared.rows.LeaseRecord.{LeaseRecord}
 use Rattle.drm_leases.specs.Masks.{LeaseRows, leases_in, IsFull, AreApart, is_lent}
 use Rattle.drm_leases.proofs.ByKey.{none_keyed}

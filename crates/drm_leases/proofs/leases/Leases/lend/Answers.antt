@@ -2,7 +2,7 @@ use Rattle.std.proofs.Common.{◌≡◌, ◌<◌, ◌==◌, true, not, map, filt
 use Rattle.std.specs.List.{AllByRecursion}
 use Rattle.std.specs.Option.{is_some}
 use Rattle.drm_index_array.specs.Rows.{placed}
-use Rattle.drm_lists.proofs.Orders.{in_order_filter}
+use Rattle.drm_index_array.proofs.Orders.{in_order_filter}
 use Rattle.drm_modes.specs.Numbers.{numbers_from}
 use Rattle.drm_masters.specs.Masters.{MasterSet, master_at, step_number_at}
 use Rattle.drm_leases.specs.declared.rows.Grant.{Grant}

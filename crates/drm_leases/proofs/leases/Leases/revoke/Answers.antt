@@ -1,5 +1,5 @@
 use Rattle.std.proofs.Common.{ap, sym, subst, ◌∙◌}
-use Rattle.drm_lists.specs.Chains.{is_under}
+use Rattle.drm_index_array.specs.Chains.{is_under}
 use Rattle.drm_masters.specs.Masters.{lessor_of, step_number_at, swept}
 use Rattle.drm_masters.specs.Calls.{released}
 use Rattle.drm_leases.specs.Leases.{LeaseSet, AreLeases}

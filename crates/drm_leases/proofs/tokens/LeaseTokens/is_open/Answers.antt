@@ -1,6 +1,6 @@
 use Rattle.std.proofs.Common.{find, ap, ◌∙◌}
 use Rattle.std.specs.Option.{is_some}
-use Rattle.drm_lists.proofs.FoundInLists.{is_some-find, is_some-map}
+use Rattle.drm_index_array.proofs.FoundInLists.{is_some-find, is_some-map}
 use Rattle.drm_leases.specs.Leases.{is_token_of}
 use Rattle.drm_leases.proofs.OpenTokens.{number_of}
 use Rattle.drm_leases.proofs.tokens.LeaseTokens.is_open.Goals as goal

@@ -1,9 +1,9 @@
 use Rattle.std.proofs.Common.{◌≡◌, ◌==◌, Bool, true, false, ◌&&◌, None, Some, refl, sym, ap, subst, ◌∙◌, eq-eqb}
 use Rattle.std.specs.Prelude.{IfSome, ◌||◌, Ok}
 use Rattle.std.specs.Option.{is_some}
-use Rattle.drm_lists.proofs.FoundInLists.{is_some-false}
+use Rattle.drm_index_array.proofs.FoundInLists.{is_some-false}
 use Rattle.drm_table.specs.Permit.{first_failing}
-use Rattle.drm_lists.proofs.Rising.{any_found}
+use Rattle.drm_index_array.proofs.Rising.{any_found}
 use Rattle.drm_masters.specs.declared.faults.SetDone.TheVariants.{Made}
 use Rattle.drm_masters.specs.declared.rows.Member.{Member}
 use Rattle.drm_masters.specs.Calls.{set_checks}

@@ -6,7 +6,7 @@ use Rattle.drm_id_alloc.specs.Groups.{GroupMap, has}
 use Rattle.drm_keys.specs.Keys.{rows_in}
 use Rattle.drm_keys.proofs.KeyLemmas.{rise, vacant, created, created_keyed, by_key, grown}
 use Rattle.drm_index_array.specs.Rows.{placed}
-use Rattle.drm_lists.proofs.Placed.{all_placed}
+use Rattle.drm_index_array.proofs.Placed.{all_placed}
 use Rattle.drm_masters.specs.declared.rows.Master.{Master}
 use Rattle.drm_masters.specs.declared.table.MasterTable.TheInside.{Inside}
 use Rattle.drm_masters.specs.Calls.{keyed_as}

@@ -5,7 +5,7 @@ use Rattle.slab.specs.Slab.{get}
 use Rattle.drm_id_alloc.specs.Groups.{has}
 use Rattle.drm_keys.specs.Keys.{rows_in}
 use Rattle.drm_keys.proofs.KeyLemmas.{by_step_number, removed, removed_keyed}
-use Rattle.drm_lists.proofs.Lists.{all_filter}
+use Rattle.drm_index_array.proofs.Lists.{all_filter}
 use Rattle.drm_masters.specs.declared.rows.Master.{Master}
 use Rattle.drm_masters.specs.Masters.{is_step_number, is_option, owner_of, master_at}
 use Rattle.drm_masters.specs.Ids.{id_at, AreIdsOf, IsUnnamed}

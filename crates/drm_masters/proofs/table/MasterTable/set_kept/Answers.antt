@@ -8,7 +8,7 @@ use Rattle.drm_keys.proofs.KeyLemmas.{replaced, replaced_keyed}
 use Rattle.drm_masters.specs.declared.rows.Master.{Master}
 use Rattle.drm_masters.specs.Calls.{kept_as}
 use Rattle.drm_id_alloc.specs.Groups.{has}
-use Rattle.drm_lists.proofs.Lists.{all_weaker, all_mapped}
+use Rattle.drm_index_array.proofs.Lists.{all_weaker, all_mapped}
 use Rattle.std.specs.List.{AllByRecursion}
 use Rattle.drm_masters.specs.Records.{items_of}
 use Rattle.drm_masters.specs.Tables.{nothing, AreLesseesOf}

@@ -1,6 +1,6 @@
 use Rattle.std.proofs.Common.{◌≡◌, ◌≤◌, ◌++◌, false, drop, filter, length}
 use Rattle.std.specs.Option.{option_map_or}
-use Rattle.drm_lists.specs.Numbers.{is_among}
+use Rattle.drm_index_array.specs.Numbers.{is_among}
 use Rattle.drm_modes.specs.Topology.{crtc_of_plane, planes_of, plane_ids}
 use Rattle.drm_modes.proofs.topologies.Topology.planes_of.Given as goal
 

@@ -1,5 +1,5 @@
 use Rattle.std.proofs.Common.{◌≡◌, true, false, sym, ◌∙◌, ap, not, ◌&&◌}
-use Rattle.drm_authority.specs.Lessees.{has_ended}
+use Rattle.drm_history.specs.Lessees.{has_ended}
 use Rattle.drm_rights.specs.Leases.{lent_in}
 use Rattle.drm_rights.proofs.LendingLemmas.{granted_was_lent, none_of}
 use Rattle.drm_rights.proofs.ledger.Ledger.is_granted.Goals as goal

@@ -1,7 +1,7 @@
 use Rattle.std.proofs.Common.{◌≤◌, ◌==◌, ◌&&◌, ◌||◌, length, sym, ◌∙◌, ap, subst}
 use Rattle.std.proofs.lemmas.List.{take_all}
 use Rattle.std.proofs.lemmas.List.Sorted.{IsNonDecreasingBy-from_sort, list_any-IsPermutation}
-use Rattle.drm_lists.specs.Numbers.{is_among}
+use Rattle.drm_index_array.specs.Numbers.{is_among}
 use Rattle.drm_modes.specs.Topology.{planes_of}
 use Rattle.drm_rights.specs.Leases.{lent_in, listed_in}
 use Rattle.drm_rights.proofs.LendingLemmas.{all_lent}

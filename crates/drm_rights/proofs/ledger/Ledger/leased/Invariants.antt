@@ -1,5 +1,5 @@
 use Rattle.std.proofs.Common.{◌≡◌, ℕ, ◌&&◌, ◌||◌, take}
-use Rattle.drm_lists.specs.Numbers.{is_among}
+use Rattle.drm_index_array.specs.Numbers.{is_among}
 use Rattle.drm_modes.specs.Topology.{planes_of}
 use Rattle.drm_rights.specs.Leases.{lent_in, listed_in}
 use Rattle.drm_rights.proofs.ledger.Ledger.leased.Given as goal

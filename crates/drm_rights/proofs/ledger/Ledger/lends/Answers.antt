@@ -1,7 +1,7 @@
 use Rattle.std.proofs.Common.{◌≡◌, true, false, Some, None, not, ◌&&◌, ◌||◌, refl, sym, ◌∙◌, ap}
 use Rattle.std.specs.Option.{is_some}
-use Rattle.drm_authority.specs.Lessees.{lessor_in}
-use Rattle.drm_authority.proofs.Falls.{lessor_falls}
+use Rattle.drm_history.specs.Lessees.{lessor_in}
+use Rattle.drm_history.proofs.Falls.{lessor_falls}
 use Rattle.drm_rights.specs.Leases.{lent_in, lent_by, comes_along, is_ended_before}
 use Rattle.drm_rights.proofs.LendingLemmas.{lends_by, lent_told, none_of}
 use Rattle.drm_rights.proofs.ledger.Ledger.lends.Goals as goal

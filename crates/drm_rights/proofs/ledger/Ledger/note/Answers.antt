@@ -1,10 +1,10 @@
 use Rattle.std.proofs.Common.{◌≡◌, ◌∷◌, ◌++◌, [], option_to_list, sym, ◌∙◌, ap}
 use Rattle.std.specs.Prelude.{if◌then◌else◌}
 use Rattle.drm_history.specs.History.{next_number}
-use Rattle.drm_authority.specs.Effects.{effect}
-use Rattle.drm_authority.specs.MasterState.{lease_in, caller_master_in, owner_in, master_state, transition}
-use Rattle.drm_authority.specs.Lessees.{ended_by}
-use Rattle.drm_authority.specs.Magics.{magic_in}
+use Rattle.drm_history.specs.Effects.{effect}
+use Rattle.drm_history.specs.MasterState.{lease_in, caller_master_in, owner_in, master_state, transition}
+use Rattle.drm_history.specs.Lessees.{ended_by}
+use Rattle.drm_history.specs.Magics.{magic_in}
 use Rattle.drm_trails.specs.Effects.{effect_of, leased_by}
 use Rattle.drm_trails.specs.Steps.{entry_of, history_of}
 use Rattle.drm_rights.specs.Leases.{new_lease, end_with}

@@ -1,5 +1,5 @@
 use Rattle.std.proofs.Common.{◌∙◌, ap}
-use Rattle.drm_lists.specs.Chains.{top_of}
+use Rattle.drm_index_array.specs.Chains.{top_of}
 use Rattle.drm_rights.specs.Leases.{leases_in, lessor_noted}
 use Rattle.drm_rights.proofs.LeaseLemmas.{lessors_told}
 use Rattle.std.proofs.Common.{subst, sym}

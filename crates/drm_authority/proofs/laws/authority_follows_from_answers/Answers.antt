@@ -1,5 +1,0 @@
-use Rattle.drm_authority.proofs.Follows.{authority_of_answers}
-use Rattle.drm_authority.proofs.laws.authority_follows_from_answers.Goals as goal
-
-pub returns : goal.returns
-returns c = authority_of_answers

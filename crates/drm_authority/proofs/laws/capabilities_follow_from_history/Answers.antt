@@ -1,8 +1,0 @@
-use Rattle.drm_authority.proofs.Follows.{capabilities_follow, overlays_alone}
-use Rattle.drm_authority.proofs.laws.capabilities_follow_from_history.Goals as goal
-
-pub returns-clause-clients : goal.returns-clause-clients
-returns-clause-clients c = capabilities_follow
-
-pub returns-clause-overlays : goal.returns-clause-overlays
-returns-clause-overlays c = overlays_alone

@@ -1,9 +1,0 @@
-pub mod Effects
-pub mod MasterState
-pub mod Mastership
-pub mod Shown
-pub mod Lessees
-pub mod Magics
-pub mod Closings
-pub mod SeesNothing
-pub mod Laws

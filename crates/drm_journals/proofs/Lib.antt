@@ -1,2 +1,0 @@
-pub mod JournalLemmas
-pub mod Crossing

@@ -1,5 +1,0 @@
-mod LesseeRows
-mod Revoked
-mod LeaseIds
-mod Asked
-mod OneLeaseMore

@@ -1,7 +1,0 @@
-use Rattle.std.proofs.Common.{ℕ, ◌<◌}
-use Rattle.drm_shrinking.specs.Shrinking.{IsNeeded}
-use Rattle.drm_shrinking.proofs.shrink.needs_each.Given as goal
-
--- each line so far is needed
-abbrev pub invariant-loop-place : goal.invariant-loop-place
-invariant-loop-place l = (line : ℕ) → line < l.place → IsNeeded l.setup l.text l.number l.answer line

@@ -1,4 +1,0 @@
-pub mod Traces
-pub mod CallCounts
-pub mod PutSoFar
-pub mod TextLemmas
