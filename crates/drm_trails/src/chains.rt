@@ -1,6 +1,6 @@
 //! How a client obtained the handle of an object.
 
-ghost use Rattle.std.specs.Prelude.{ℕ, take, IfOk, IfSome, IfNone};
+ghost use Rattle.std.specs.Prelude.{◌≡◌, ℕ, [], true, is_none, take, IfOk, IfSome, IfNone};
 ghost use Rattle.drm_trails.specs.Steps.{history_of};
 ghost use Rattle.drm_trails.specs.Chains.{EndsChain, Explains, HasNone, IsOfDevice};
 ghost use Rattle.drm_trails.specs.Searches.{AreNoted, AreTouched};
@@ -89,7 +89,11 @@ pub struct Marks<'a> {
 }
 
 impl Marks<'_> {
-    fn leaves_out(&self, past: usize, found: usize) -> bool {
+    ghost use Rattle.std.specs.Prelude.{◌≡◌, [], false};
+
+    fn leaves_out(&self, past: usize, found: usize) -> bool
+        ensures { self.now.steps.now ≡ [] → result ≡ false }
+    {
         match self.steps.get(past) {
             Some(is_marked) => found >= self.kept && *is_marked,
             None => false,
@@ -113,6 +117,7 @@ pub(crate) fn chain_end_in(
     requires touched { AreTouched steps.now touches.now }
     ensures whole { IfOk result (λ found. IfSome found (λ end. IfNone end.left ((o : ℕ) × Explains (history_of (take count steps.now)) client handle o end.links.items))) }
     ensures front { IfOk result (λ found. IfSome found (λ end. IfSome end.left (λ left. EndsChain (history_of (take count steps.now)) (history_of (take left.count steps.now)) client handle left.client left.handle end.links.items))) }
+    ensures all { marks.entry.steps.now ≡ [] → IfOk result (λ found. IfSome found (λ end. is_none end.left ≡ true)) }
     ensures none { IfOk result (λ found. IfNone found (IsOfDevice (history_of (take count steps.now)) → HasNone (history_of (take count steps.now)) client handle)) }
 {
     let mut links = Vec::new(alloc);

@@ -86,7 +86,7 @@ fn listed(alloc: Global, held: &BTreeMap<u64, u64>) -> Result<Vec<Held>, AllocEr
 
 /// Returns the client's handles after these steps, in rising order.
 ///
-/// Each handle occurs once, with the last step that assigned it. A handle that a later step took is not among them.
+/// Each handle occurs once, with the last step that assigned it. A handle that a later step took is left out.
 /// Allocates the list.
 ///
 /// # Errors

@@ -1,6 +1,6 @@
 //! The steps of a history, with an index of what they published.
 
-ghost use Rattle.std.specs.Prelude.{◌≡◌, ◌++◌, ◌∷◌, ℕ, [], true, take, IfOk, IfSome, IfNone};
+ghost use Rattle.std.specs.Prelude.{◌≡◌, ◌++◌, ◌∷◌, ℕ, [], true, is_none, take, IfOk, IfSome, IfNone};
 ghost use Rattle.drm_history.specs.Holds.{Has};
 ghost use Rattle.drm_trails.specs.Chains.{EndsChain, Explains, HasNone, IsOfDevice, LeadsTo, links_of};
 ghost use Rattle.drm_trails.specs.Handles.{is_given_at};
@@ -168,6 +168,7 @@ impl Trail {
         ensures whole { IfOk result (λ found. IfSome found (λ end. IfNone end.left ((o : ℕ) × Explains (history_of (take count self.now)) client handle o end.links.items))) }
         ensures chain { IfOk result (λ found. IfSome found (λ end. IfNone end.left ((o : ℕ) × LeadsTo (history_of (take count self.now)) client handle o (links_of end.links.items)))) }
         ensures front { IfOk result (λ found. IfSome found (λ end. IfSome end.left (λ left. EndsChain (history_of (take count self.now)) (history_of (take left.count self.now)) client handle left.client left.handle end.links.items))) }
+        ensures all { marks.entry.steps.now ≡ [] → IfOk result (λ found. IfSome found (λ end. is_none end.left ≡ true)) }
         ensures none { IfOk result (λ found. IfNone found (IsOfDevice (history_of (take count self.now)) → HasNone (history_of (take count self.now)) client handle)) }
     {
         chain_end_in(
