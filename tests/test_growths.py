@@ -140,7 +140,7 @@ class GrowthsTests(FolderCase):
         folder = self.folder
         name = "replays::replays_stop_where_an_event_is_not_noted"
         said = ""
-        for at, ran in enumerate(refused_in_turn(folder, "drm_device_tests", name), start=1):
+        for at, ran in enumerate(refused_in_turn(folder, "drm_session_tests", name), start=1):
             expect_well(name, at, ran)
             said += ran.said
         for word in ("refused for the device", "refused at an event"):

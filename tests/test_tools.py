@@ -276,7 +276,7 @@ class ToolsTests(FolderCase):
         text = rules.read_text()
         expect("status", run(tool).returncode, 0)
         counted = run(tool, "--count").stdout
-        module = folder / "crates/drm_example_tests/src/examples/table.rt"
+        module = folder / "crates/drm_wire_tests/src/examples/table.rt"
         expect("a test of rules", "Rule::of_number(43)" in module.read_text(), True)
         rules.write_text(text.replace("```rust", "```rust,no_run"))
         ran = run(tool)

@@ -1,5 +1,5 @@
 //! The tests of the program as a library: listings that are cut, and the sessions that a server returns. They are apart from those of
-//! `drm_device_tests` and `drm_session_tests`, which don't wait for the program.
+//! `drm_session_tests`, which does not wait for the program.
 #![tactic(auto)]
 
 #[cfg(test)]

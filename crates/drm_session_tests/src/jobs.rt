@@ -4,12 +4,12 @@ ghost use Rattle.std.specs.Prelude.{◌≡◌};
 ghost use Rattle.drm_frames.specs.Streams.{no_calls};
 
 use crate::comparing::same;
+use crate::trials::{Trial, new_device};
 use crate::turns::{lend_back, shared};
 use drm_device::Device;
 use drm_frames::{FromRead, ToWrite};
 use drm_sessions::{Class, Finished, Gate, Job, SessionEnd, serve_many};
 use drm_table::{Event, Limits};
-use drm_test_devices::{Trial, new_device};
 use std::alloc::{AllocError, Global};
 use std::process::Abort;
 use std::sync::atomic::{AtomicBool, Ordering};

@@ -1,9 +1,14 @@
-//! The tests of a device that is shared by threads, and of sessions over streams that fail: tables of cases, run by few functions.
-//! `tests/test_frames.py` and `tests/test_streams.py` show sessions of the built program.
+//! The tests of a device by its own calls and of one that threads share, and of scripts and sessions over streams that fail: tables
+//! of cases, run by few functions. Scripts show the rest, and `tests/test_frames.py` and `tests/test_streams.py` show sessions of the
+//! built program.
 #![tactic(auto)]
 
 #[cfg(test)]
+mod checks;
+#[cfg(test)]
 mod comparing;
+#[cfg(test)]
+mod devices;
 #[cfg(test)]
 mod examples;
 #[cfg(test)]
@@ -11,8 +16,16 @@ mod jobs;
 #[cfg(test)]
 mod many;
 #[cfg(test)]
+mod replays;
+#[cfg(test)]
+mod runs;
+#[cfg(test)]
 mod sessions;
 #[cfg(test)]
+mod shrinking;
+#[cfg(test)]
 mod traces;
+#[cfg(test)]
+mod trials;
 #[cfg(test)]
 mod turns;

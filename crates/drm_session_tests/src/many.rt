@@ -4,11 +4,11 @@ ghost use Rattle.std.specs.Prelude.{◌≡◌};
 
 use crate::comparing::same;
 use crate::jobs::{Ends, HELLO_VERSION_TWICE, ends, job};
+use crate::trials::{Trial, new_device};
 use crate::turns::{lend_back, shared};
 use drm_device::Device;
 use drm_sessions::{NoGate, SessionEnd, serve_many};
 use drm_table::{Event, Limits};
-use drm_test_devices::{Trial, new_device};
 use drm_turns::{Seat, SharedDevice};
 use std::alloc::{AllocError, Global};
 use std::process::Abort;

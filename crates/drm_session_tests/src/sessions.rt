@@ -1,11 +1,11 @@
 //! Sessions over sources and sinks that end, fail and interrupt, with few turns. `tests/test_streams.py` cuts them at each byte.
 
 use crate::comparing::same;
+use crate::trials::{Trial, try_on_new};
 use drm_device::Device;
 use drm_frames::{FromRead, Source, ToWrite};
 use drm_sessions::{Access, Class, Gate, NoGate, Session, SessionEnd, serve, serve_alone};
 use drm_table::{Answer, Apart, Event, Limits, Rule};
-use drm_test_devices::{Trial, try_on_new};
 use drm_test_support::{Cut, sink_of, source_of};
 use std::alloc::{AllocError, Global};
 use std::cell::Cell;

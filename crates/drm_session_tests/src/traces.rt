@@ -1,9 +1,9 @@
 //! The lines of a trace, also after more than a day. `tests/test_traces.py` has those of a server.
 
+use crate::trials::new_device;
 use drm_device::Device;
 use drm_sessions::Class;
 use drm_table::{Call, Event, Limits, Opening};
-use drm_test_devices::new_device;
 use drm_traffic::{Palette, Tracer, WatchedCall};
 use std::test::Fail;
 use std::time::Duration;

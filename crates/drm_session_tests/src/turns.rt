@@ -3,9 +3,9 @@
 ghost use Rattle.std.specs.Prelude.{◌≡◌, IfOk};
 
 use crate::comparing::same;
+use crate::trials::{Trial, lend, new_device};
 use drm_device::Device;
 use drm_table::{Answer, Apart, Call, Event, Limits, Opening};
-use drm_test_devices::{Trial, lend, new_device};
 use drm_turns::{NoMemory, Seat, SharedDevice, Sharing, TurnOut};
 use std::alloc::{AllocError, Global};
 use std::process::Abort;

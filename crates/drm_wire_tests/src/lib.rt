@@ -7,6 +7,8 @@ mod answer_lines;
 #[cfg(test)]
 mod comparing;
 #[cfg(test)]
+mod examples;
+#[cfg(test)]
 mod frames;
 #[cfg(test)]
 mod interruptions;

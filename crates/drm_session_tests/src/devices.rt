@@ -1,9 +1,9 @@
 //! The limits of a device, and its journal.
 
 use crate::comparing::same;
+use crate::trials::{Trial, lend, test_topology};
 use drm_device::{Device, NewFault};
 use drm_table::{Event, Limits};
-use drm_test_devices::{Trial, lend, test_topology};
 use std::alloc::Global;
 use std::process::Abort;
 use std::test::Fail;

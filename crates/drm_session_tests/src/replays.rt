@@ -2,9 +2,9 @@
 
 use crate::comparing::same;
 use crate::devices::HasJournal;
+use crate::trials::{lend, test_topology};
 use drm_device::{NewFault, ReplayFault, replay};
 use drm_table::{Apart, Event, Limits, Opening};
-use drm_test_devices::{lend, test_topology};
 use std::alloc::Global;
 use std::process::Abort;
 use std::test::Fail;

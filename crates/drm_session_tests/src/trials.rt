@@ -1,4 +1,4 @@
-//! Trials on a device that one function owns.
+//! Trials on a device that one function owns: a function that drops a device takes long to prove.
 
 use drm_device::{Device, PlaneKind, Topology};
 use drm_table::Limits;
@@ -6,25 +6,25 @@ use std::alloc::Global;
 use std::test::Fail;
 
 /// A trial on a device that is lent, with a test's runtime.
-pub trait Trial<R> {
+pub(crate) trait Trial<R> {
     /// Runs the trial on this device.
     fn run(&self, rt: &R, alloc: Global, device: &mut Device) -> Result<(), Fail>;
 }
 
 /// Returns a topology of two CRTCs, with a plane and a connector for each and two encoders. The first CRTC's plane is its primary plane,
 /// and the first encoder may drive both CRTCs.
-pub fn test_topology() -> Result<Topology, Fail> {
+pub(crate) fn test_topology() -> Result<Topology, Fail> {
     let kinds = [PlaneKind::Primary(1), PlaneKind::Overlay];
     Ok(Topology::with_kinds(2, &[1, 2], &kinds, &[3, 2], &[5, 6]).ok_or("no topology")?)
 }
 
 /// Returns a new device with that topology within these limits.
-pub fn new_device(alloc: Global, limits: Limits) -> Result<Device, Fail> {
+pub(crate) fn new_device(alloc: Global, limits: Limits) -> Result<Device, Fail> {
     Ok(Device::new(alloc, test_topology()?, limits)?)
 }
 
 /// Runs the trial on a device that was created. If none was, it returns the fault.
-pub fn lend<R, F: Drop, T: Trial<R>>(
+pub(crate) fn lend<R, F: Drop, T: Trial<R>>(
     rt: &R,
     alloc: Global,
     made: Result<Device, F>,
@@ -40,7 +40,7 @@ pub fn lend<R, F: Drop, T: Trial<R>>(
 }
 
 /// Runs the trial on a new device within these limits.
-pub fn try_on_new<R, T: Trial<R>>(
+pub(crate) fn try_on_new<R, T: Trial<R>>(
     rt: &R,
     alloc: Global,
     limits: Limits,

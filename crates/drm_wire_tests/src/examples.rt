@@ -1,5 +1,5 @@
 //! The examples of doc comments, made by `tools/doc_examples`.
 
-mod checks;
-mod device;
-mod runs;
+mod frames;
+mod script;
+mod table;
