@@ -28,17 +28,10 @@ use std::marker::Model;
 /// let mut groups = Groups::new(alloc);
 /// let Ok(()) = groups.note(3, 500) else { return };
 /// ```
+#[derive(Drop)]
 pub struct Groups {
     alloc: Global,
     groups: IndexArray<Numbers>,
-}
-
-// Written out, so that it is proved once: a derived one is proved again in each crate that drops such a value.
-impl Drop for Groups {
-    fn drop(self) {
-        let Groups { alloc: _, groups } = self;
-        drop(groups);
-    }
 }
 
 impl Model for Groups {

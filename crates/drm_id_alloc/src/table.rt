@@ -23,6 +23,7 @@ use std::marker::Model;
 /// let mut table: IdTable<u8> = IdTable::new(alloc, 1, 2);
 /// let Ok(id) = table.add(7) else { return };
 /// ```
+#[derive(Drop)]
 pub struct IdTable<T> {
     entries: IndexArray<T>,
     first: u32,
@@ -30,20 +31,6 @@ pub struct IdTable<T> {
     last_given: Option<u32>,
     // Each number of the range below it has an entry. The search for the lowest free number starts here.
     start: u32,
-}
-
-// Written out, so that it is proved once: a derived one is proved again in each crate that drops a table.
-impl<T: Drop> Drop for IdTable<T> {
-    fn drop(self) {
-        let IdTable {
-            entries,
-            first: _,
-            last: _,
-            last_given: _,
-            start: _,
-        } = self;
-        drop(entries);
-    }
 }
 
 impl<T> Model for IdTable<T> {

@@ -30,26 +30,13 @@ use std::marker::Model;
 /// let mut array: IndexArray<u8> = IndexArray::new(alloc);
 /// let Ok(()) = array.insert(300, 7) else { return };
 /// ```
+#[derive(Drop)]
 pub struct IndexArray<T> {
     alloc: Global,
     // None before the first entry.
     root: Option<Box<Node<T>>>,
     count: usize,
     spares: Spares<T>,
-}
-
-// Written out, so that it is proved once: a derived one is proved again in each crate that drops an array.
-impl<T: Drop> Drop for IndexArray<T> {
-    fn drop(self) {
-        let IndexArray {
-            alloc: _,
-            root,
-            count: _,
-            spares,
-        } = self;
-        drop(root);
-        drop(spares);
-    }
 }
 
 impl<T> Model for IndexArray<T> {
