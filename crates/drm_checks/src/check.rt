@@ -100,18 +100,18 @@ impl Check {
     }
 }
 
-/// Checks a file: runs its script on a new device, and compares each answer with the one that its line expects (own). The
-/// device begins with this topology and these default limits.
+/// Checks a file: runs its script on a new device, which begins with this topology and these default limits, and compares
+/// each answer with the one that its line expects (own).
 ///
-/// It writes a line to the sink for each answer that differs: `NAME:N: expected EXPECTED, got ANSWER`. After it is a line
+/// It writes a line to the sink for each answer that differs: `NAME:N: expected EXPECTED, came ANSWER`. After it is a line
 /// with four spaces, the command and the line's number, unless the command is empty. It makes at most `turns` calls of the
 /// source and the sink.
 ///
 /// The text of a line before its first ` -> ` is a line of a script. The text after it is the expected line of the
 /// answer. `denied N` and `apart N` are short for the whole line. A line without ` -> ` and a comment expect nothing.
 ///
-/// If a line can't be used, the function also returns the cause. The whole line is too long, or the text before the first
-/// ` -> ` is no line of a script: then the cause says why and at which place. It allocates only the device.
+/// If a line can't be used, the function also returns the cause: why the text before the first ` -> ` is no line of a
+/// script, and at which place, or that the whole line is too long. It allocates only the device.
 ///
 /// # Examples
 ///

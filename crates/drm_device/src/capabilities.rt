@@ -15,7 +15,7 @@ const DUMB_BUFFER: u64 = 0x1;
 /// The capability of PRIME, by its directions (drm-uapi, `DRM_CAP_PRIME`).
 const PRIME: u64 = 0x5;
 
-/// Answers with 1.0.0, the version of the interface (VERSION; drm-uapi). Does not allocate and needs no limit.
+/// Returns the version of the interface (VERSION; drm-uapi).
 pub fn version(answer: &mut Answer)
     ensures { answer.new ≡ version_answer }
 {

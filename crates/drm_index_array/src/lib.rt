@@ -1,6 +1,6 @@
 //! A finite map from `u32`, whose entries have three marks each.
 //!
-//! It also has the definitions of lists up to their order, in an order, and of numbers, which the crates above cite. An
+//! Beside it are the definitions of lists up to their order, in an order, and of numbers, which the crates above cite. An
 //! example is the body of a function that has the runtime `rt`.
 #![tactic(auto)]
 

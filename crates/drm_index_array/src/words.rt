@@ -9,7 +9,7 @@ ghost use Rattle.drm_index_array.specs.Word.{has_bit, tells_of, AreWords};
 use crate::marks::Mark;
 
 /// What a search is for.
-#[derive(Clone, Copy)]
+#[derive(Clone, Copy, Debug)]
 pub enum Sought {
     /// An index that has an entry.
     Taken,
@@ -20,7 +20,7 @@ pub enum Sought {
 }
 
 /// What lies below each slot of a node: a bit for each slot.
-#[derive(Clone, Copy)]
+#[derive(Clone, Copy, Debug)]
 pub struct Words {
     /// Some index below the slot has an entry.
     pub present: u64,

@@ -115,7 +115,7 @@ fn count(ids: &[u32], number: u32) -> usize
     ids.iter().filter(|id| **id == number).count()
 }
 
-/// Returns whether these mode objects can be leased: there is a CRTC, a connector and, with universal planes on, a plane.
+/// Returns whether they are a lease: a CRTC and a connector are among them, and with universal planes on a plane.
 pub fn is_lease(modes: &Modes, universal: bool, ids: &[u32]) -> bool
     ensures { result ≡ rules.is_lease modes.now.topology universal ids.now }
 {

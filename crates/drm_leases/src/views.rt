@@ -17,14 +17,14 @@ use drm_modes::{Kind, Modes};
 /// ```
 #[derive(Clone, Copy, PartialEq, Debug)]
 pub enum Controlled {
-    /// All mode objects: the master has no lessor.
+    /// All of them: the master has no lessor.
     All,
     /// Those of the lessee's lease. Bit x - 1 is mode object x.
     Lease(u64),
 }
 
 impl Controlled {
-    /// Returns whether the mode object is controlled. Does not allocate.
+    /// Returns whether the mode object is among them. Does not allocate.
     pub fn has(self, mode_object: u32) -> bool
         ensures { result ≡ is_controlled self mode_object }
     {

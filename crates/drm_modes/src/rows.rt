@@ -3,6 +3,14 @@
 use drm_gem::ObjectKey;
 
 /// The shape of a framebuffer's pixels (drm-uapi, mode setting: MODE_ADDFB).
+///
+/// # Examples
+///
+/// ```rust
+/// use drm_modes::Shape;
+///
+/// let shape = Shape { width: 640, height: 480, pitch: 2560, bpp: 32 };
+/// ```
 #[derive(Clone, Copy, PartialEq, Debug)]
 pub struct Shape {
     /// The width in pixels.

@@ -1,5 +1,5 @@
-//! Scripts: reads lines from a source, makes each step on a device, and writes its answers to a sink. It also reads
-//! and writes the topologies of custom devices as texts.
+//! Scripts: reads lines from a source, makes each step on a device, and writes its answers to a sink. Beside them are
+//! the topologies of custom devices as texts.
 //!
 //! An example is the body of a function that has the runtime `rt`. If memory is refused, it returns.
 #![tactic(auto)]

@@ -22,7 +22,7 @@ pub fn skips_comments_and_blank_lines()
     ensures { SkipsCommentsAndBlankLines }
 {}
 
-/// A line is malformed exactly if it is no command, spells no limits and is not skipped (own).
+/// A line is malformed exactly if it is none of the others (own).
 pub fn refuses_all_other_lines()
     ensures { RefusesAllOtherLines }
 {}

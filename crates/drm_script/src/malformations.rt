@@ -40,14 +40,12 @@ pub enum Wanted {
 impl fmt::Display for Wanted {
     fn fmt<W: fmt::Write>(&self, f: &mut fmt::Formatter<W>) -> fmt::Result {
         match self {
-            Wanted::FirstWord => f.write_str("label from a to z, limits, open, open2 or close"),
-            Wanted::Label => f.write_str("label from a to z"),
-            Wanted::Opening => f.write_str(
-                "kind of opening: card, render, root, lease or rootlease",
-            ),
-            Wanted::Call => f.write_str("call"),
+            Wanted::FirstWord => write!(f, "label from a to z, limits, open, open2 or close"),
+            Wanted::Label => write!(f, "label from a to z"),
+            Wanted::Opening => write!(f, "kind of opening: card, render, root, lease or rootlease"),
+            Wanted::Call => write!(f, "call"),
             Wanted::Number(greatest) => write!(f, "number from 0 to {greatest}"),
-            Wanted::AuditKind => f.write_str("kind of an audit, from 1 to 10"),
+            Wanted::AuditKind => write!(f, "kind of an audit, from 1 to 10"),
         }
     }
 }

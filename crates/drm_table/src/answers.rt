@@ -5,6 +5,15 @@ use crate::lists::ShownList;
 use crate::rules::Rule;
 
 /// The answer of a step that the journal records.
+///
+/// # Examples
+///
+/// ```rust
+/// use drm_table::Answer;
+///
+/// let answer = Answer::Number { value: 7 };
+/// assert!(rt; answer != Answer::Done);
+/// ```
 #[derive(PartialEq, Debug, Drop)]
 pub enum Answer {
     /// The call was carried out and returns nothing.

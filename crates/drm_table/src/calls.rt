@@ -14,7 +14,6 @@ use crate::lookup::row;
 use crate::rows::{Family, Row};
 use bitflags::Flags;
 use std::alloc::AllocError;
-use std::fmt;
 
 /// A request. It has one variant for each row of the table, and two for requests without a row.
 ///
@@ -26,7 +25,7 @@ use std::fmt;
 /// let call = Call::BufCreate { size: 4096 };
 /// assert!(rt; call.number() == 0x40);
 /// ```
-#[derive(PartialEq, Drop)]
+#[derive(PartialEq, Debug, Drop)]
 pub enum Call {
     /// A number that no row has.
     Unknown(u16),
@@ -341,17 +340,6 @@ impl CallKind {
         CallKind::GetLease,
         CallKind::RevokeLease,
     ];
-}
-
-/// Writes the kind and the fields of the call, such as `RmFb [U32(257)]`. A call without a row has its number in place of them.
-impl fmt::Debug for Call {
-    fn fmt<W: fmt::Write>(&self, f: &mut fmt::Formatter<W>) -> fmt::Result {
-        match (self, self.row()) {
-            (_, Some((kind, fields))) => write!(f, "{kind:?} {:?}", fields.as_slice()),
-            (Call::BadLayout(number), None) => write!(f, "BadLayout {number:#x}"),
-            _ => write!(f, "Unknown {:#x}", self.number()),
-        }
-    }
 }
 
 /// Copies the call. Does not allocate and never fails.

@@ -4,6 +4,15 @@ use crate::calls::Call;
 use std::alloc::AllocError;
 
 /// The way in which a client is opened.
+///
+/// # Examples
+///
+/// ```rust
+/// use drm_table::Opening;
+///
+/// let opening = Opening::Primary { root: true, universal: true };
+/// assert!(rt; opening != Opening::Render);
+/// ```
 #[derive(Clone, Copy, PartialEq, Debug)]
 pub enum Opening {
     /// A primary node, by root (CAP_SYS_ADMIN) or not, with universal planes on or off (drm-uapi). Both as parts of an

@@ -1,4 +1,4 @@
-//! The common parts of tests: lists in answers, and the calls of a part as data. Sources and sinks that return and take
+//! The common parts of tests: lists in answers, the calls of a part as data, and sources and sinks that return and take
 //! bytes in pieces, and fail, end or are interrupted at given places.
 #![tactic(auto)]
 

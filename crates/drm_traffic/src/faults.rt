@@ -36,14 +36,14 @@ pub enum Wanted {
 
 impl fmt::Display for Wanted {
     fn fmt<W: fmt::Write>(&self, f: &mut fmt::Formatter<W>) -> fmt::Result {
-        f.write_str(match self {
-            Wanted::Command => "fail, stall, break, clear or list",
-            Wanted::Call => "call",
-            Wanted::Client => "client",
-            Wanted::Number => "number",
-            Wanted::Memory => "`=memory`",
-            Wanted::Millis => "`=MS`",
-        })
+        match self {
+            Wanted::Command => write!(f, "fail, stall, break, clear or list"),
+            Wanted::Call => write!(f, "call"),
+            Wanted::Client => write!(f, "client"),
+            Wanted::Number => write!(f, "number"),
+            Wanted::Memory => write!(f, "`=memory`"),
+            Wanted::Millis => write!(f, "`=MS`"),
+        }
     }
 }
 

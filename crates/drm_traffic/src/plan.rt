@@ -42,19 +42,11 @@ impl Due {
 /// let Ok(plan) = Plan::new(alloc) else { return };
 /// assert!(rt; plan.due(&rt, &Event::Open(Opening::Render)) == Due::NOTHING);
 /// ```
+#[derive(Drop)]
 pub struct Plan {
     /// The shortages of the calls that can add a row, in the order of `ADDING`.
     shortages: Vec<Shortage>,
     counted: Mutex<Counted>,
-}
-
-// Written out, so that it is proved once: a derived one is proved again in each crate that drops such a value.
-impl Drop for Plan {
-    fn drop(self) {
-        let Plan { shortages, counted } = self;
-        drop(shortages);
-        drop(counted);
-    }
 }
 
 impl Plan {

@@ -111,7 +111,7 @@ impl Calls {
 impl fmt::Display for Calls {
     fn fmt<W: fmt::Write>(&self, f: &mut fmt::Formatter<W>) -> fmt::Result {
         match str::from_utf8(self.word()) {
-            Ok(word) => f.write_str(word),
+            Ok(word) => write!(f, "{word}"),
             Err(_) => Ok(()),
         }
     }

@@ -40,6 +40,7 @@ struct Seen {
 /// The calls of all connections. A thread that reports a step locks the queue of its connection, and the inbox of all only
 /// if the queue is full or a reader waits. There is room for each step of the journal, so that no step is left out. There is
 /// also room for some faults. Those beyond are counted.
+#[derive(Drop)]
 pub struct Watch {
     start: Duration,
     /// The last steps of the connections. A queue is locked before the inbox.
@@ -52,27 +53,6 @@ pub struct Watch {
     more: Condvar,
     /// Locked before the queues, and by readers only.
     reorder: Mutex<Reorder>,
-}
-
-// Written out, so that it is proved once: a derived one is proved again in each crate that drops such a value.
-impl Drop for Watch {
-    fn drop(self) {
-        let Watch {
-            start: _,
-            queues,
-            inbox,
-            faults,
-            is_awaited,
-            more,
-            reorder,
-        } = self;
-        drop(queues);
-        drop(inbox);
-        drop(faults);
-        drop(is_awaited);
-        drop(more);
-        drop(reorder);
-    }
 }
 
 impl Watch {

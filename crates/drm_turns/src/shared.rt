@@ -510,8 +510,7 @@ impl SharedDevice {
         Note { place }
     }
 
-    /// Merges what a note reports into the participant. If the note was split off this participant, one fewer is
-    /// outstanding.
+    /// Takes in what a note says. If it was the participant's own, one fewer is out.
     pub fn meet(&self, participant: &mut Seat, note: Note)
         requires own { participant.old.table ≡ self.now }
         requires note { note.table ≡ self.now }

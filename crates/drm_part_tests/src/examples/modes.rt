@@ -57,6 +57,12 @@ fn part_2(rt: HostRuntime) {
     );
     assert!(rt; modes.rmfb(2, framebuffer).is_none());
     assert!(rt; modes.rmfb(1, framebuffer) == Some(object));
+    let shape = Shape {
+        width: 640,
+        height: 480,
+        pitch: 2560,
+        bpp: 32,
+    };
 }
 
 #[test]

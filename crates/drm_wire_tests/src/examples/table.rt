@@ -2,14 +2,15 @@
 
 use drm_table::{
     Answer, AnswerKind, Apart, AuditKind, AuditPage, AuditRow, Call, CallKind, Event, Family,
-    Field, Fields, IdList, Layout, Limits, RowFlags, Rule, ShownList, Standing, Told, Width,
-    are_in_range, permit, row,
+    Field, Fields, IdList, Layout, Limits, Opening, RowFlags, Rule, ShownList, Standing, Told,
+    Width, are_in_range, permit, row,
 };
 
 #[test]
 fn part_1(rt: HostRuntime) {
     let answer = Answer::Number { value: 7 };
     assert!(rt; matches!(answer.told(), Told::Fields(AnswerKind::Number, _)));
+    assert!(rt; answer != Answer::Done);
     let fault = Apart::NoMemory;
     assert!(rt; fault.errno() == 12);
     let kind = AuditKind::Object;
@@ -27,12 +28,21 @@ fn part_1(rt: HostRuntime) {
     let call = CallKind::GemClose.call(&[Field::U32(1)]);
     assert!(rt; call == Some(Call::GemClose { handle: 1 }));
     assert!(rt; CallKind::GemClose.call(&[]).is_none());
+    let opening = Opening::Primary {
+        root: true,
+        universal: true,
+    };
+    assert!(rt; opening != Opening::Render);
     let event = Event::Ask(1, Call::GetMagic);
     assert!(rt; event != Event::Close(1));
     assert!(rt; Width::of_ids(2) == [Width::U32, Width::U32].as_slice());
     assert!(rt; matches!(CallKind::CreateLease.layout(), Layout::Ids));
     let fields: Fields<5> = Fields::of(&[Field::U32(1), Field::U64(2)]);
     assert!(rt; fields.as_slice().len() == 2);
+}
+
+#[test]
+fn part_2(rt: HostRuntime) {
     let limits = Limits {
         clients: 8,
         ..Limits::PROGRAM
@@ -46,10 +56,6 @@ fn part_1(rt: HostRuntime) {
     );
     let list = ShownList::new();
     assert!(rt; list.ids().is_empty());
-}
-
-#[test]
-fn part_2(rt: HostRuntime) {
     let mut ids = IdList::new();
     ids.push(2);
     let call = Call::CreateLease { ids };
