@@ -47,7 +47,7 @@ from libdrm_errnos import build_program, compare_errnos, errnos_of_the_library, 
 
 import plain_device  # noqa: E402
 
-LIBDRM = REPOSITORY / "docs/LIBDRM.md"
+REQUESTS = REPOSITORY / "docs/REQUESTS.md"
 # how long a boot of the test may take, of three attempts
 SECONDS = 40
 BOOTED = ("rows/leases_are_refused_in_order", "linux/unknown_connector", "linux/lessees_that_lease")
@@ -190,15 +190,15 @@ class BesideKernelTests(FolderCase):
         want_libdrm()
         library = errnos_of_the_library()
         expect("what is wrong", wrong_errnos(library), [])
-        expect("requests", f"`tests/libdrm_errnos.c` makes {len(library)} requests" in LIBDRM.read_text(), True)
+        expect("requests", f"`tests/libdrm_errnos.c` makes {len(library)} requests" in REQUESTS.read_text(), True)
 
     def test_errnos_that_differ_are_those_of_the_document(self):
         script, known = read_trials(ERRNOS)
         for series in kernels.SERIES:
             for number, errno in script.expected_of(series).items():
                 row = f"| {script.lines[number - 1]} | {known[number]} | {errno} |\n"
-                expect(f"the row {row}", row in LIBDRM.read_text(), True)
-        rows = LIBDRM.read_text().partition("| request | library | kernels |\n")[2].partition("\n\n")[0]
+                expect(f"the row {row}", row in REQUESTS.read_text(), True)
+        rows = REQUESTS.read_text().partition("| request | library | kernels |\n")[2].partition("\n\n")[0]
         expect("rows", rows.count("\n"), len(script.expected))
 
     def test_other_errnos_of_a_kernel_are_found(self):

@@ -17,7 +17,7 @@ SUBJECTS = ("Requests", "Buffers", "Masters", "Mode setting", "Leases", "Limits"
 REPRESENTED = "Scripts"
 COMPARED = "## What was compared\n"
 NEXT = "## Scripts on a kernel\n"
-# the comparison that LIBDRM has
+# the comparison that REQUESTS has
 ERRNOS = "libdrm_errnos"
 TOPOLOGIES = {device.driver for device in MODULES}
 
