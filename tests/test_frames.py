@@ -271,9 +271,29 @@ class FramesTests(FolderCase):
             for frame, answer in rows.items():
                 expect(f"the answer to {frame}", exchanged(self.folder / "card", bytes.fromhex(frame)), answer)
             # a client of version 2 has universal planes off, and turns them on
-            text = bytes.fromhex(hello.format("02000000", "00000000", "00000000"))
-            text += framed(0x0D, bytes.fromhex("0200000000000000 0100000000000000"))
-            expect("version 2", exchanged(self.folder / "card", text)[10:], IS_DONE)
+            text = bytes.fromhex(hello.format("02000000", "00000000", "00000000")) + framed(0xB5, b"")
+            text += framed(0x0D, bytes.fromhex("0200000000000000 0100000000000000")) + framed(0xB5, b"")
+            planes = [bytes.fromhex("0a000000 0710 01000000 04000000"), IS_DONE]
+            planes.append(bytes.fromhex("0e000000 0710 02000000 03000000 04000000"))
+            expect("version 2", exchanged(self.folder / "card", text)[10:], b"".join(planes))
+            expect("the status", end_of(started).returncode, 0)
+
+    def test_lease_hello_on_the_render_socket(self):
+        with server(self.folder, 0, 1, 0) as started:
+            text = bytes.fromhex("0e000000 0001 01000000 01000000 01000000")
+            expect("the answer", exchanged(self.folder / "render", text), b"")
+            expect("the status", end_of(started).returncode, 0)
+
+    def test_lengths_out_of_range(self):
+        """The session ends as soon as the four bytes have arrived."""
+        lengths = (0, 1, 1025)
+        with server(self.folder, len(lengths), 0, 0) as started:
+            for length in lengths:
+                with retry(lambda: connect_raw(self.folder / "card")) as client:
+                    client.sendall(HELLO + length.to_bytes(4, "little"))
+                    answers = client.recv(len(OPENED), socket.MSG_WAITALL)
+                    expect(f"what follows the length {length}", client.recv(1), b"")
+                    expect("the opening", answers[:6], OPENED[:6])
             expect("the status", end_of(started).returncode, 0)
 
     def test_full_journal(self):
