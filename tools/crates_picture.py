@@ -1,9 +1,8 @@
 #!/usr/bin/env python3
-"""Prints a picture of the crates of crates.txt: each depends on those that its arrows lead to.
+"""Prints a picture of the layers of crates.txt: each is a box with its crates, and depends on those that its arrows lead to.
 
-A comment line of crates.txt begins a layer (`# parts: what they are`). Layers are bands of the picture, the first at the
-bottom. The picture leaves out arrows that follow from others, and libraries of the toolchain. Crates of a layer with the
-same arrows share a box.
+A comment line of crates.txt begins a layer (`# parts: what they are`). The picture leaves out arrows that follow from
+others. docs/CRATES.md lists on which crates each crate depends.
 
 Exit status:
   0  the picture was printed
@@ -15,107 +14,103 @@ Examples:
 """
 import re
 import sys
+from math import ceil
 from typing import Dict, List, NamedTuple, Set, Tuple
 
 sys.dont_write_bytecode = True
 from command_line import parser_of  # noqa: E402  (it is in this folder)
 from crates import CRATES, read_crates  # noqa: E402  (likewise)
 
-MARGIN, GAP_X, GAP_Y, PAD, LINE = 24.0, 22.0, 40.0, 10.0, 18.0
-# how wide a letter is at most, on the average of a line
-LETTER = 7.0
+MARGIN, GAP_X, GAP_Y, PAD, LINE = 24.0, 28.0, 40.0, 10.0, 18.0
+# how wide a letter of a crate's name is at most, on the average, and one of a title
+LETTER, TITLE = 7.0, 8.8
+# the crates of a layer are in at most so many columns
+COLUMNS = 3
 SWEEPS = 40
-# the boxes are next to the names of the layers
-LEFT = 110.0
 
-Box = Tuple[str, ...]
-Arrow = Tuple[Box, Box]
-
-
-class Node(NamedTuple):
-    """A box in a row, or the place where an arrow (its two ends) passes that row."""
-
-    row: int
-    names: Tuple[Box, ...]
-
-    def is_box(self) -> bool:
-        return len(self.names) == 1
-
-    def width(self) -> float:
-        return 2 * PAD + LETTER * max(map(len, self.names[0])) if self.is_box() else 0.0
-
-    def height(self) -> float:
-        return 2 * PAD + LINE * len(self.names[0]) - 6
+Arrow = Tuple["Layer", "Layer"]
 
 
 class Layer(NamedTuple):
+    """A layer, with what it is and its crates."""
+
     name: str
     what: str
-    crates: List[str]
+    crates: Tuple[str, ...]
+
+    def column(self) -> float:
+        """Returns the width of a column of its crates."""
+        return LETTER * max(map(len, self.crates)) + 2 * PAD
+
+    def lines(self) -> int:
+        """Returns the number of crates in a column."""
+        return ceil(len(self.crates) / COLUMNS)
+
+    def width(self) -> float:
+        return max(ceil(len(self.crates) / self.lines()) * self.column(), 2 * PAD + TITLE * len(self.name))
+
+    def height(self) -> float:
+        return 2 * PAD + LINE * (1 + self.lines())
+
+
+class Node(NamedTuple):
+    """A layer in a row, or the place where an arrow (its two ends) passes that row."""
+
+    row: int
+    layers: Tuple[Layer, ...]
+
+    def is_box(self) -> bool:
+        return len(self.layers) == 1
+
+    def width(self) -> float:
+        return self.layers[0].width() if self.is_box() else 0.0
+
+    def height(self) -> float:
+        return self.layers[0].height()
 
 
 def read_layers(text: str) -> List[Layer]:
     """The layers, from the lowest on."""
     parts = re.split(r"^# (\w+): (.*)$", text, flags=re.M)
     return [
-        Layer(name, what, list(read_crates(lines))) for name, what, lines in zip(parts[1::3], parts[2::3], parts[3::3])
+        Layer(name, what, tuple(read_crates(lines))) for name, what, lines in zip(parts[1::3], parts[2::3], parts[3::3])
     ]
 
 
-def reduced(crates: Dict[str, List[str]]) -> Dict[str, List[str]]:
-    """Returns the libraries on which no other library depends."""
-    below: Dict[str, Set[str]] = {}
+def reduced(below: Dict[str, Set[str]]) -> Dict[str, Set[str]]:
+    """Returns for each name those below it on which no other one below it depends."""
+    found: Dict[str, Set[str]] = {}
 
     def all_below(name: str) -> Set[str]:
-        if name not in below:
-            below[name] = set(crates[name]).union(*map(all_below, crates[name]))
-        return below[name]
+        if name not in found:
+            found[name] = below[name].union(*map(all_below, below[name]))
+        return found[name]
 
     return {
-        name: [library for library in libraries if not any(library in all_below(other) for other in libraries)]
-        for name, libraries in crates.items()
+        name: {one for one in ones if not any(one in all_below(other) for other in ones)} for name, ones in below.items()
     }
 
 
-def boxes_of(crates: Dict[str, List[str]], layers: List[Layer]) -> Tuple[List[Box], List[Arrow]]:
-    """The crates in boxes, and the arrows between these."""
-    layer_of = {name: layer.name for layer in layers for name in layer.crates}
-    above = {name: tuple(other for other in crates if name in crates[other]) for name in crates}
-    groups: Dict[Tuple[object, ...], List[str]] = {}
-    for name, libraries in crates.items():
-        # at the top, with nothing above, each has its own box
-        key = (tuple(libraries), above[name], layer_of[name]) if libraries and above[name] else (name,)
-        groups.setdefault(key, []).append(name)
-    box_of = {name: tuple(group) for group in groups.values() for name in group}
-    arrows = {(box_of[name], box_of[library]): None for name, libraries in crates.items() for library in libraries}
-    return list(dict.fromkeys(box_of.values())), list(arrows)
+def arrows_of(crates: Dict[str, List[str]], layers: List[Layer]) -> List[Arrow]:
+    """The arrows from each layer to those on which its crates depend."""
+    layer_of = {crate: layer for layer in layers for crate in layer.crates}
+    below = {
+        layer.name: {layer_of[library].name for crate in layer.crates for library in crates[crate]} - {layer.name}
+        for layer in layers
+    }
+    lower = reduced(below)
+    return [(upper, layer) for upper in layers for layer in layers if layer.name in lower[upper.name]]
 
 
-def depths_of(boxes: List[Box], arrows: List[Arrow]) -> Dict[Box, int]:
-    """Returns the row of each box within its layer: one below the lowest of the layer that depend on it."""
-    found: Dict[Box, int] = {}
-
-    def depth(box: Box) -> int:
-        if box not in found:
-            found[box] = max([depth(start) + 1 for start, end in arrows if end == box and start in boxes], default=0)
-        return found[box]
-
-    return {box: depth(box) for box in boxes}
-
-
-def rows_of(boxes: List[Box], arrows: List[Arrow], layers: List[Layer]) -> Tuple[Dict[Box, int], List[int]]:
-    """Returns the row of each box, from the top, and the first row of each layer, which is below the later ones."""
-    rows: Dict[Box, int] = {}
-    firsts: List[int] = []
+def rows_of(layers: List[Layer], arrows: List[Arrow]) -> Dict[Layer, int]:
+    """Returns the row of each layer, from the top: one below the lowest of those that depend on it."""
+    rows: Dict[Layer, int] = {}
     for layer in reversed(layers):
-        first = max(rows.values(), default=-1) + 1
-        depths = depths_of([box for box in boxes if box[0] in layer.crates], arrows)
-        rows.update({box: first + depth for box, depth in depths.items()})
-        firsts.insert(0, first)
-    return rows, firsts
+        rows[layer] = max([rows[start] + 1 for start, end in arrows if end == layer], default=0)
+    return rows
 
 
-def ways_of(arrows: List[Arrow], rows: Dict[Box, int]) -> List[List[Node]]:
+def ways_of(arrows: List[Arrow], rows: Dict[Layer, int]) -> List[List[Node]]:
     """The way of each arrow from row to row."""
     return [
         [
@@ -152,14 +147,14 @@ def middles_of(ways: List[List[Node]]) -> Dict[Node, float]:
     """Returns the middle of each node, which is moved next to its neighbours again and again."""
     near = neighbours_of(ways)
     count = max(node.row for node in near) + 1
-    rows = [sorted((node for node in near if node.row == row), key=lambda node: node.names) for row in range(count)]
+    rows = [sorted((node for node in near if node.row == row), key=lambda node: node.layers) for row in range(count)]
     middles = {node: 100.0 * place for row in rows for place, node in enumerate(row)}
     for sweep in range(SWEEPS):
         for row in rows if sweep % 2 == 0 else reversed(rows):
             wishes = {node: sum(middles[other] for other in near[node]) / len(near[node]) for node in row}
             middles.update(spread(row, wishes))
     left = min(middle - node.width() / 2 for node, middle in middles.items())
-    return {node: middle - left + LEFT for node, middle in middles.items()}
+    return {node: middle - left + MARGIN for node, middle in middles.items()}
 
 
 def tops_of(nodes: List[Node]) -> List[float]:
@@ -201,43 +196,35 @@ def drawn_arrow(way: List[Node], ways: List[List[Node]], middles: Dict[Node, flo
     return f'<path class="arrow" d="{" ".join(parts)}"/>'
 
 
-def drawn_box(node: Node, middle: float, top: float) -> List[str]:
-    left = middle - node.width() / 2
-    parts = [
-        f'<rect class="box" x="{left:.1f}" y="{top:.1f}" width="{node.width():.1f}" height="{node.height():.1f}" rx="6"/>'
+def drawn_box(layer: Layer, middle: float, top: float) -> List[str]:
+    left = middle - layer.width() / 2
+    box = (
+        f'<rect class="box" x="{left:.1f}" y="{top:.1f}" width="{layer.width():.1f}" height="{layer.height():.1f}" rx="6"/>'
+    )
+    title = f'<text class="title" x="{left + PAD:.1f}" y="{top + PAD + 9:.1f}">{layer.name}</text>'
+    places = ((divmod(place, layer.lines()), crate) for place, crate in enumerate(layer.crates))
+    names = [
+        f'<text class="line" x="{left + PAD + layer.column() * column:.1f}" y="{top + PAD + 9 + LINE * (row + 1):.1f}">'
+        f"{crate}</text>"
+        for (column, row), crate in places
     ]
-    return parts + [
-        f'<text class="line" x="{left + PAD:.1f}" y="{top + PAD + 9 + LINE * place:.1f}">{name}</text>'
-        for place, name in enumerate(node.names[0])
-    ]
+    return [box, title, *names]
 
 
 STYLE = """<style>
 text { font-family: sans-serif; font-size: 12px; fill: #1f2937; }
 .box { fill: #dbeafe; stroke: #3b6fb6; stroke-width: 1.5; }
-.layer { fill: #f3f4f6; }
-.head { font-weight: bold; }
+.title { font-weight: bold; }
 .arrow { fill: none; stroke: #4b5563; stroke-width: 1.2; marker-end: url(#head); }
 </style>
 <defs><marker id="head" viewBox="0 0 10 10" refX="10" refY="5" markerWidth="7" markerHeight="7" orient="auto">\
 <path d="M 0 0 L 10 5 L 0 10 z" fill="#4b5563"/></marker></defs>"""
 
 
-def drawn_layers(layers: List[Layer], firsts: List[int], tops: List[float], width: float) -> List[str]:
-    """A band for each layer, with its name."""
-    parts = []
-    for layer, first, end in zip(layers, firsts, [len(tops) - 1, *firsts]):
-        top, bottom = tops[first] - GAP_Y / 2 + 3, tops[end] - GAP_Y / 2 - 3
-        parts.append(f'<rect class="layer" x="0" y="{top:.1f}" width="{width:.0f}" height="{bottom - top:.1f}"/>')
-        parts.append(f'<text class="head" x="{PAD:.1f}" y="{top + 16:.1f}">{layer.name}</text>')
-    return parts
-
-
 def picture(text: str) -> str:
     layers = read_layers(text)
-    boxes, arrows = boxes_of(reduced(read_crates(text)), layers)
-    rows, firsts = rows_of(boxes, arrows, layers)
-    ways = ways_of(arrows, rows)
+    arrows = arrows_of(read_crates(text), layers)
+    ways = ways_of(arrows, rows_of(layers, arrows))
     middles = middles_of(ways)
     tops = tops_of(list(middles))
     width = max(middle + node.width() / 2 for node, middle in middles.items()) + MARGIN
@@ -247,10 +234,9 @@ def picture(text: str) -> str:
         STYLE,
         f'<rect width="{width:.0f}" height="{height:.0f}" fill="#ffffff"/>',
     ]
-    lines += drawn_layers(layers, firsts, tops, width)
     lines += [drawn_arrow(way, ways, middles, tops) for way in ways]
     for node, middle in middles.items():
-        lines += drawn_box(node, middle, tops[node.row]) if node.is_box() else []
+        lines += drawn_box(node.layers[0], middle, tops[node.row]) if node.is_box() else []
     return "\n".join([*lines, "</svg>"])
 
 
