@@ -52,7 +52,7 @@ REQUESTS = REPOSITORY / "docs/REQUESTS.md"
 SECONDS = 40
 BOOTED = ("rows/leases_are_refused_in_order", "linux/unknown_connector", "linux/lessees_that_lease")
 RANDOM = (1, 2, 3)
-HEAD = "# A title\n# subject: Leases\n# kernel: It does\n#   this.\n# here: It does that.\n"
+HEAD = "# A title\n# subject: Leases\n# met by: few\n# function: f\n# kernel: It does\n#   this.\n# here: It does that.\n"
 SCRIPT = "open a card -> client 1\na setcrtc 1 0 99 -> denied 30 NoModeObject 2\n# linux 6.12: errno 22\na version\n"
 
 
@@ -77,16 +77,21 @@ class BesideKernelTests(FolderCase):
     def test_page_is_that_of_the_examples(self):
         text = linux_page.PAGE.read_text()
         expect("the page", text, linux_page.page_of(linux_page.compared_of(text)))
-        subjects = {read_page(path).subject for path in pages()}
-        expect("subjects", subjects, {linux_page.REPRESENTED, *linux_page.SUBJECTS})
+        heads = [read_page(path) for path in pages()]
+        expect("subjects", {head.subject for head in heads}, {linux_page.REPRESENTED, *linux_page.SUBJECTS})
+        for head in heads:
+            is_difference = head.subject != linux_page.REPRESENTED
+            expect(f"whether {head.title} has a level", head.met_by in linux_page.LEVELS, is_difference)
+            expect(f"whether {head.title} has a function", head.function != "", is_difference)
 
     def test_head_and_differences_of_a_file(self):
         file = self.folder / "some.script"
         file.write_text(HEAD + SCRIPT)
-        expect("the head", tuple(read_page(file)), ("A title", "Leases", "It does this.", "It does that."))
+        wanted = ("A title", "Leases", "It does this.", "It does that.", "few", "f")
+        expect("the head", tuple(read_page(file)), wanted)
         script = read_script(file)
-        expect("the lines", script.lines[5:7], ["open a card", "a setcrtc 1 0 99"])
-        expect("a difference in 6.12", script.expected_of("6.12"), {7: "errno 22"})
+        expect("the lines", script.lines[7:9], ["open a card", "a setcrtc 1 0 99"])
+        expect("a difference in 6.12", script.expected_of("6.12"), {9: "errno 22"})
         expect("a difference in 6.1", script.expected_of("6.1"), {})
 
     def test_answers_as_they_are_compared(self):

@@ -17,7 +17,6 @@ sys.dont_write_bytecode = True
 from support import (  # noqa: E402
     REPOSITORY,
     FolderCase,
-    Skipped,
     add_tests,
     connect,
     end_of,
@@ -36,11 +35,8 @@ from support import (  # noqa: E402
 from zirkoshe import constants, protocol  # noqa: E402
 
 from blocks import blocks_of, commands_of, documents, is_answer, tables_of, worked_rows  # noqa: E402
-from libdrm_support import supervisor  # noqa: E402
 from pictures import expect_picture  # noqa: E402
-
-# what commands of the documents find at the top of the repository, where they are run
-TOP = ("bench", "clients", "crates", "drm_server", "examples", "tools", "zirkoshe")
+from terminals import expect_command, expect_commands, expect_terminal, link_top  # noqa: E402
 
 # The examples whose answers tests/test_program.py doesn't have.
 EXAMPLES = {
@@ -143,49 +139,6 @@ def expect_script(lines, answers):
 def expect_example(name):
     ran = run_program("run", script=(REPOSITORY / f"examples/{name}.script").read_text())
     expect_end(ran, 0, "", EXAMPLES[name])
-
-
-def link_top(folder):
-    """Makes a folder look like the top of the repository to commands."""
-    for name in TOP:
-        (folder / name).symlink_to(REPOSITORY / name)
-    (folder / "docs").mkdir()
-
-
-def expect_command(folder, command, printed):
-    """Runs a command at the top of a repository, and compares what it prints."""
-    if "libdrm" in command:
-        want_libdrm()
-    if "--seccomp" in command:
-        supervisor()
-    if "modetest" in command:
-        want_program("modetest")
-    if "bwrap" in command or "examples/sandbox/" in command:
-        want_bubblewrap()
-    expect_end(run("sh", "-c", command, cwd=folder), 0, "", printed)
-
-
-def want_bubblewrap():
-    """Skips the test if bubblewrap is missing, or if the system does not let it create namespaces."""
-    want_program("bwrap")
-    if run("bwrap", "--unshare-all", "--ro-bind", "/", "/", "--dev", "/dev", "--proc", "/proc", "true").returncode != 0:
-        raise Skipped("bwrap can't create a sandbox here")
-
-
-def expect_terminal(folder, block):
-    link_top(folder)
-    for command, printed in commands_of(block.lines):
-        expect_command(folder, command, printed)
-
-
-def expect_commands(folder, block):
-    """Commands that end well; a file that they write in docs/ is that of the repository."""
-    link_top(folder)
-    for command in block.lines:
-        ran = run("sh", "-c", command, cwd=folder)
-        expect("error output and status", (ran.stderr, ran.returncode), ("", 0))
-    for path in (folder / "docs").iterdir():
-        expect(path.name, path.read_text(), (REPOSITORY / "docs" / path.name).read_text())
 
 
 def expect_terminal_beside(folder, serving, block):

@@ -3,11 +3,13 @@
 
 What it tests: archive, Debian package and wheel of a program that isn't proved: what their names, their metadata
 and the program say. A release, twice: equal bytes, sums, the page. Tools that fail in the middle. A Debian
-package in an empty root and by lintian, a wheel in an empty environment and by twine.
+package in an empty root and by lintian, a wheel in an empty environment and by twine. Commands of README, EXAMPLES and
+the guides, with an archive and with a Debian package.
 
 Each test has its own folder. The last line is `N passed, M failed`; one whose tools aren't there is skipped, and told so.
 Standard library only.
 """
+import functools
 import hashlib
 import os
 import pathlib
@@ -24,6 +26,7 @@ from support import (  # noqa: E402
     REPOSITORY,
     FolderCase,
     Skipped,
+    add_tests,
     expect,
     expect_end,
     make_root,
@@ -34,6 +37,9 @@ from support import (  # noqa: E402
     want_libdrm,
     want_program,
 )
+
+from blocks import blocks_of  # noqa: E402
+from terminals import expect_commands, expect_terminal  # noqa: E402
 
 VERSION = (REPOSITORY / "VERSION").read_text().strip()
 TOLD = "drm_server: the program of this package is not proved\n"
@@ -177,6 +183,73 @@ class ArchiveTests(PackageCase):
             "LABEL org.opencontainers.image.title=$ARCHIVE",
         ):
             expect(line, line in lines, True)
+
+
+# commands of documents
+
+MADE = tempfile.TemporaryDirectory(prefix="drm_")
+
+
+@functools.lru_cache(None)
+def package_of(tool):
+    """The package that a tool makes of a program that passes for a proved one."""
+    folder = pathlib.Path(MADE.name) / tool
+    folder.mkdir(exist_ok=True)
+    tree, environment = proved_tree(folder)
+    made = run(tree / "tools" / tool, folder / "made", env=environment, timeout=300)
+    expect("error output and status", (made.stderr, made.returncode), ("", 0))
+    return pathlib.Path(made.stdout.rstrip("\n"))
+
+
+@functools.lru_cache(None)
+def top_of_archive():
+    return unpacked_archive(package_of("package"), pathlib.Path(MADE.name))
+
+
+@functools.lru_cache(None)
+def top_of_debian_package():
+    """The folder of the documents in the unpacked package, whose files a reader links to."""
+    root = pathlib.Path(MADE.name) / "root"
+    expect_end(run("dpkg-deb", "-x", package_of("debian-package"), root), 0, "", "")
+    return root / "usr/share/doc/zirkoshe"
+
+
+def command_tests(name, top):
+    """A test for each block of commands in README, EXAMPLES and the guides."""
+    guides = sorted(str(path.relative_to(REPOSITORY)) for path in (REPOSITORY / "docs/guides").glob("*.md"))
+    blocks = [block for page in ("README.md", "docs/EXAMPLES.md", *guides) for block in blocks_of(page)]
+    run_here = [block for block in blocks if not block.is_said_not_to_be_run()]
+    tests = {}
+    for block in run_here:
+        if block.is_terminal():
+            tests[f"test_{name}: {block.place()}"] = functools.partial(expect_with, expect_terminal, block, top)
+        elif block.is_of_commands():
+            tests[f"test_{name}: {block.place()}"] = functools.partial(expect_with, expect_commands, block, top)
+    return tests
+
+
+def expect_with(trial, block, top, folder):
+    """Runs the commands of a block at the top of a package, with the package's program."""
+    trial(folder, block, top(), plain_environment(PYTHONDONTWRITEBYTECODE="1"))
+
+
+class CommandsInArchiveTests(FolderCase):
+    """Commands of documents, with an archive."""
+
+
+class CommandsInDebianPackageTests(FolderCase):
+    """Commands of documents, with a Debian package."""
+
+    @classmethod
+    def setUpClass(cls):
+        super().setUpClass()
+        for name in ("dpkg-deb", "strip", "readelf"):
+            want_program(name)
+        want_libdrm()
+
+
+add_tests(CommandsInArchiveTests, command_tests("archive", top_of_archive))
+add_tests(CommandsInDebianPackageTests, command_tests("debian_package", top_of_debian_package))
 
 
 class ReleaseTests(FolderCase):

@@ -17,7 +17,7 @@ REPOSITORY = TESTS.parent
 EXAMPLES = REPOSITORY / "examples"
 # a difference that a file of examples/linux expects of the line above it, in all kernels or in those that it names
 EXPECTED = re.compile(r"# linux((?: \d+\.\d+)*): (.*)")
-HEADING = re.compile(r"# (subject|kernel|here): (.*)")
+HEADING = re.compile(r"# (subject|met by|function|kernel|here): (.*)")
 LINES = 120
 
 
@@ -37,12 +37,17 @@ class Script(NamedTuple):
 
 
 class Page(NamedTuple):
-    """What a file of examples/linux says in its head: a title, the subject, and what a kernel and the server do."""
+    """What a file of examples/linux says in its head: a title, the subject, and what a kernel and the server do.
+
+    If it's a difference, the head also says how many programs meet it, and the kernel's function.
+    """
 
     title: str
     subject: str
     kernel: str
     here: str
+    met_by: str
+    function: str
 
 
 def is_event(line: str) -> bool:
@@ -80,7 +85,8 @@ def read_page(path: pathlib.Path) -> Page:
             fields[last] += " " + line[4:]
         else:
             break
-    return Page(lines[0][2:], fields["subject"], fields["kernel"], fields["here"])
+    named = [fields[name] for name in ("subject", "kernel", "here")]
+    return Page(lines[0][2:], *named, fields.get("met by", ""), fields.get("function", ""))
 
 
 def read_trials(path: pathlib.Path) -> Tuple[Script, Dict[int, str]]:

@@ -12,8 +12,15 @@ from kernel_scripts import EXAMPLES, MODULES, REPOSITORY, Page, Script, read_pag
 from kernel_standings import STANDINGS
 
 PAGE = REPOSITORY / "docs/LINUX.md"
-# the subjects of the differences, in the order of the page
 SUBJECTS = ("Requests", "Buffers", "Masters", "Mode setting", "Leases", "Limits")
+# how many programs meet a difference, in the order of the page
+LEVELS = {
+    "many": "Differences that many programs meet",
+    "some": "Differences that some programs meet",
+    "few": "Differences that few programs meet",
+}
+# where a function of a kernel is
+SOURCE = "https://elixir.bootlin.com/linux/v6.12/A/ident/"
 REPRESENTED = "Scripts"
 COMPARED = "## What was compared\n"
 NEXT = "## Scripts on a kernel\n"
@@ -24,21 +31,23 @@ TOPOLOGIES = {device.driver for device in MODULES}
 INTRODUCTION = """\
 # Differences from Linux
 
-This page lists where the [rules](RULES.md) of this server differ from the DRM core of Linux. `tools/beside-kernel` runs
-the same scripts on kernels and on the server, and compares the answers. It fails if an answer differs and this page
-does not say so, or if a difference of this page does not show. With `--update` it writes this page from the files of
-`examples/linux`. [LIBDRM](LIBDRM.md) lists further differences for programs over libdrm.
+Where the [rules](RULES.md) of this server differ from the DRM core of Linux, as
+[drm-uapi](https://docs.kernel.org/gpu/drm-uapi.html), [drm-mm](https://docs.kernel.org/gpu/drm-mm.html),
+[drm(7)](https://manpages.debian.org/bookworm/libdrm-dev/drm.7.en.html) and
+[drm-gem(7)](https://manpages.debian.org/bookworm/libdrm-dev/drm-memory.7.en.html) describe it.
 
-Each file of `examples/linux` is a script, in [this form](SCRIPTS.md), with the server's answers. A comment
-`# linux: ANSWER` has the different answer of the kernels to the line above it. `# linux 6.12: ANSWER` has that of one
-series. `errno N` is any refusal. This command checks the server's answers:
+`tools/beside-kernel` runs the same scripts on kernels and on the server. It fails if an answer differs and this page
+does not say so, or if a difference of this page does not show. With `--update` it writes this page.
+[LIBDRM](LIBDRM.md) lists further differences for programs over libdrm.
+
+The differences that a program is most likely to meet are first. Each links to a script of `examples/linux`, in [this
+form](SCRIPTS.md), and to the kernel's function in Linux 6.12. For another version, replace `v6.12` in the address. A comment
+`# linux: ANSWER` has the different answer of the kernels to the line above it, `# linux 6.12: ANSWER` that of one series.
+`errno N` is any refusal. This command checks the server's answers:
 
     ./drm_server check examples/linux/*.script
 
 The scripts in `examples/linux/laptop` are for the topology `examples/topologies/laptop.topology`.
-
-The differences are in [requests](#requests), [buffers](#buffers), [masters](#masters), [mode setting](#mode-setting),
-[leases](#leases) and [limits](#limits).
 
 """
 
@@ -81,27 +90,30 @@ def shown_line(path: pathlib.Path, script: Script) -> str:
 def row_of(path: pathlib.Path, page: Page) -> Tuple[str, ...]:
     """The row of a file."""
     title = f"[{page.title}](../{path.relative_to(REPOSITORY)})"
-    return title, page.kernel, page.here, shown_line(path, read_script(path))
+    source = f" [`{page.function}`]({SOURCE}{page.function})" if page.function else ""
+    return page.subject, title, page.kernel + source, page.here, shown_line(path, read_script(path))
 
 
-def rows_of(subject: str) -> List[Tuple[str, ...]]:
-    """The rows of a subject, in the order of their titles."""
+def rows_of(level: str) -> List[Tuple[str, ...]]:
+    """The rows of the differences that so many programs meet, or without a level of the others, by their subjects."""
     pages = [(path, read_page(path)) for path in sorted((EXAMPLES / "linux").rglob("*.script"))]
-    return [row_of(path, page) for path, page in pages if page.subject == subject]
+    rows = [row_of(path, page) for path, page in pages if page.met_by == level]
+    return sorted(rows, key=lambda row: SUBJECTS.index(row[0])) if level else [row[1:] for row in rows]
 
 
-def subject_table(subject: str) -> str:
-    """The table of a subject, between the marks of what a tool writes (tools/prose)."""
+def written_table(level: str) -> str:
+    """The table of a level, between the marks of what a tool writes (tools/prose)."""
     head = ("rule", "in a kernel", "here", "a line, and both answers")
-    return f"<!-- written by tools/beside-kernel -->\n\n{table(head, rows_of(subject))}\n<!-- end -->\n"
+    shown = table(("subject", *head) if level else head, rows_of(level))
+    return f"<!-- written by tools/beside-kernel -->\n\n{shown}\n<!-- end -->\n"
 
 
 def page_of(compared: str) -> str:
     """The page, with this text about what was compared."""
-    parts = [INTRODUCTION, COMPARED, "\n", compared, NEXT, SCRIPTS, subject_table(REPRESENTED)]
-    for subject in SUBJECTS:
-        parts += [f"\n## {subject}\n\n", subject_table(subject)]
-    return "".join(parts)
+    parts = [INTRODUCTION]
+    for level, heading in LEVELS.items():
+        parts += [f"## {heading}\n\n", written_table(level), "\n"]
+    return "".join([*parts, COMPARED, "\n", compared, NEXT, SCRIPTS, written_table("")])
 
 
 def compared_of(text: str) -> str:
