@@ -193,10 +193,9 @@ MADE = tempfile.TemporaryDirectory(prefix="drm_")
 @functools.lru_cache(None)
 def package_of(tool):
     """The package that a tool makes of a program that passes for a proved one."""
-    folder = pathlib.Path(MADE.name) / tool
-    folder.mkdir(exist_ok=True)
+    folder = pathlib.Path(tempfile.mkdtemp(dir=MADE.name))
     tree, environment = proved_tree(folder)
-    made = run(tree / "tools" / tool, folder / "made", env=environment, timeout=300)
+    made = run(tree / "tools" / tool, folder / "made", env=environment, timeout=600)
     expect("error output and status", (made.stderr, made.returncode), ("", 0))
     return pathlib.Path(made.stdout.rstrip("\n"))
 
