@@ -9,9 +9,9 @@
  * The first, trips: requests per second, round trips, context switches and futex calls, beside a plain echo of the same frames
  * over a Unix socket, in rounds that measure the echo and the server in turn; each figure is the median of the rounds. Each
  * connection is a thread of this program that sends VERSION, waits for the answer, and sends the next. The echo is another
- * process with a thread for each connection, as the server has. Futex calls are counted by strace in a round of its own.
+ * process with a thread for each connection, as the server has. Futex calls are counted by strace in its own round.
  *
- * The second, handles: what a step costs among many handles. One connection makes so many buffers, then reads a stamp, closes
+ * The second, handles: what a step costs among many handles. One connection makes N buffers, then reads a stamp, closes
  * and makes a handle in their middle, over and over; a root client asks the last page of an audit of the handles; then the
  * connection is closed, while another asks VERSION.
  *
@@ -78,7 +78,7 @@ static int read_whole(int socket, uint8_t *buffer, size_t count) {
     return 1;
 }
 
-/* Reads one frame, and gives its size; 0 where there is none. */
+/* Reads one frame, and returns its size; 0 where there is none. */
 static size_t read_frame(int socket, uint8_t *frame) {
     if (!read_whole(socket, frame, 4))
         return 0;
@@ -177,7 +177,7 @@ static int rising(const void *one, const void *other) {
     return (a > b) - (a < b);
 }
 
-/* Sends so many requests over so many connections to the process that serves the socket. */
+/* Sends N requests over N connections to the process that serves the socket. */
 static struct measured measure(pid_t process, const char *path, int connections, long requests) {
     pthread_t threads[MOST_CONNECTIONS];
     struct connection own[MOST_CONNECTIONS];
@@ -218,7 +218,7 @@ static void *echo(void *argument) {
     return NULL;
 }
 
-/* Serves as an echo, in a process of its own: so many connections. */
+/* Serves as an echo, in its own process: N connections. */
 static int serve_echo(const char *path, int connections) {
     struct sockaddr_un address = address_of(path);
     int listener = socket(AF_UNIX, SOCK_STREAM, 0);
@@ -282,7 +282,7 @@ static void finish(pid_t child) {
         fail("a server ended with a fault");
 }
 
-/* Sends a request, waits for its answer, and gives the round trip. A denial ends the program. */
+/* Sends a request, waits for its answer, and returns the round trip. A denial ends the program. */
 static double ask(int server, const uint8_t *request, size_t size, size_t *answered) {
     uint8_t frame[MOST_FRAME];
     double start = now();
@@ -336,7 +336,7 @@ static double make_one(int server) {
     return ask(server, frame, size, NULL);
 }
 
-/* Makes so many buffers, and gives the median of the last ones. */
+/* Makes N buffers, and returns the median of the last ones. */
 static double make_all(int server, int handles) {
     static double micros[ROUNDS];
     for (int i = 0; i < handles; i++)
@@ -506,7 +506,7 @@ static void print_ratios(const struct compared *found, int count) {
     fflush(stdout);
 }
 
-/* Round trips beside those of an echo, for each count of connections. */
+/* Round trips next to those of an echo, for each count of connections. */
 static void load_of_round_trips(struct place *place, long requests, int count) {
     printf("%11s  %39s  %39s  %s\n", "", "drm_server", "echo", "server / echo");
     printf("connections  requests/s 50%% us  99%% us switch  futex  requests/s 50%% us  99%% us switch  futex  requests/s  least  most\n");
@@ -593,7 +593,7 @@ static double cost_of_line(const char *program, const char *short_path, const ch
     return median_of(costs, count);
 }
 
-/* What a line of a script costs, beside the plain program. */
+/* What a line of a script costs, next to the plain program. */
 static void load_of_scripts(struct place *place, int count) {
     int has_plain = strcmp(place->plain, "-") != 0;
     snprintf(place->trace, sizeof place->trace, "%s/short", place->folder);

@@ -229,7 +229,7 @@ static void ask_crtc(const struct device *device)
     }
 }
 
-/* A process of those that ask at once has a file of its own. */
+/* A process of those that ask at once has its own file. */
 static void ask_at_once(int ready, int begin)
 {
     struct device device = open_device();

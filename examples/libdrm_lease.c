@@ -165,7 +165,7 @@ static int take_descriptor(int peer)
     return fd;
 }
 
-/* Each of the two goes on when the other has come to the same place. */
+/* Each of the two continues when the other has come to the same place. */
 static void meet(int peer)
 {
     char byte = 'm';

@@ -19,7 +19,7 @@ int main(int count, char **words)
     failed = zirkoshe_wait_until_closed(&root, number);
     puts(failed == 0 ? "closed" : failed == -ETIMEDOUT ? "open" : strerror(-failed));
     fflush(stdout);
-    /* the connection goes on */
+    /* the connection continues */
     root.timeout = 30000;
     failed = zirkoshe_drmGetVersion(&root, &version);
     zirkoshe_close(&root);

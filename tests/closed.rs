@@ -18,7 +18,7 @@ fn main() -> ExitCode {
             Err(Error::Io(error)) if error.kind() == ErrorKind::TimedOut => println!("open"),
             Err(error) => return Err(error),
         }
-        // the connection goes on
+        // the connection continues
         root.set_timeout(DEFAULT_TIMEOUT);
         root.version()?;
         root.close()

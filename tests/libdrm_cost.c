@@ -1,4 +1,4 @@
-/* For tests: what a call through libdrm costs beside the same call by the C client, which asks the
+/* For tests: what a call through libdrm costs next to the same call by the C client, which asks the
  * server itself. The two take turns, and the medians are written, in nanoseconds.
  */
 #define _GNU_SOURCE

@@ -116,7 +116,7 @@ static void tell_event(const char *who, int fd)
     fflush(stdout);
 }
 
-/* Runs a case in a program of its own, beside this one. */
+/* Runs a case in its own program, next to this one. */
 static void beside(const char *name)
 {
     pid_t child;
@@ -741,7 +741,7 @@ static void addresses(void)
     printf("commit %s\n", said(ioctl(fd, DRM_IOCTL_MODE_ATOMIC, &commit)));
 }
 
-/* A process is stopped while it maps buffers, and goes on. */
+/* A process is stopped while it maps buffers, and continues. */
 static void stopped(void)
 {
     int fd = opened(), round, status, stops = 0;

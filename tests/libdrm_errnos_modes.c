@@ -267,7 +267,7 @@ static int cursor_of_no_handle(struct context *context)
                                                        .handle = NO_ID});
 }
 
-/* A cursor with a buffer of its own */
+/* A cursor with its own buffer */
 static int shown_cursor(struct context *context, uint32_t side)
 {
     struct drm_mode_create_dumb dumb = {.width = side, .height = side, .bpp = 32};

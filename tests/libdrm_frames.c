@@ -84,7 +84,7 @@ static uint32_t make_fb(int fd)
     return make_fb_of(fd, 64, 64, 24);
 }
 
-/* Lights a CRTC, and gives the framebuffer that it shows. */
+/* Lights a CRTC, and returns the framebuffer that it shows. */
 static uint32_t light(int fd, uint32_t crtc, uint32_t connector, int milliseconds)
 {
     drmModeModeInfo mode = mode_of(milliseconds);
@@ -157,7 +157,7 @@ static void await(int fd)
     drmHandleEvent(fd, &context);
 }
 
-/* Frames one behind the other, in a listed mode: times are those of the numbers, and none is told
+/* Frames one after the other, in a listed mode: times are those of the numbers, and none is told
  * of before its time. */
 static void show_frames(int frames)
 {

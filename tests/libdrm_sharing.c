@@ -61,7 +61,7 @@ static void *ask_encoder(void *argument)
     return NULL;
 }
 
-/* Refusals have errnos of their own: a handle that isn't held, and a framebuffer that isn't there.
+/* Refusals have their own errnos: a handle that isn't held, and a framebuffer that isn't there.
  */
 static void *ask_refusals(void *argument)
 {

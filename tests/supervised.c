@@ -287,7 +287,7 @@ static void shares(void)
     say("imports no descriptor", ask(other, DRM_IOCTL_PRIME_FD_TO_HANDLE, &imported));
 }
 
-/* Shares the node with a child, which ends while the parent goes on. */
+/* Shares the node with a child, which ends while the parent continues. */
 static void forks(void)
 {
     int card = open_card(), status = 0;

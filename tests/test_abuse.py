@@ -54,7 +54,7 @@ FEW_FILES = 24
 
 @contextlib.contextmanager
 def journaling(folder, *counts, files=None, limits=()):
-    """A server with a journal, whose sockets are in a folder of their own, and that may open so many files."""
+    """A server with a journal, whose sockets are in their own folder, and that may open N files."""
 
     def limit():
         if files is not None:

@@ -143,7 +143,7 @@ def fill(folder):
 
 
 def audited(folder, form):
-    """What the tool prints in this form, of a device of its own."""
+    """What the tool prints in this form, of its own device."""
     with server(folder, 2, 1, 1):
         clients = fill(folder)
         ran = run(AUDIT, folder / "root", *form)
@@ -354,7 +354,7 @@ class AuditsTests(FolderCase):
                 expect("the clients now", len(found["clients"]), 2)
                 steps = other.audit(10, 0)[0].d
                 most = (time.monotonic() - begun) / float(INTERVAL)
-                # 31 steps of its own at first, then at most one in an interval, then those of what is new
+                # 31 own steps at first, then at most one in an interval, then those of what is new
                 expect(f"whether {steps} steps are too many", steps < 31 + most + 20, True)
 
     def test_watch_is_refused(self):

@@ -49,7 +49,7 @@ def unreadable_files(folder):
 
 
 def commands_of(ran):
-    """The commands that a check tells beside the answers that differ."""
+    """The commands that a check tells next to the answers that differ."""
     expect("status and error output", (ran.returncode, ran.stderr), (4, ""))
     return [line.strip() for line in ran.stdout.splitlines() if line.startswith("    ")]
 
@@ -129,7 +129,7 @@ class ChecksTests(FolderCase):
     """Tests of files that check themselves: what doesn't show, standard input, files that are updated, and files that don't end."""
 
     def test_ends_that_do_not_show(self):
-        """A carriage return or a space behind what is expected is told by a word for it."""
+        """A carriage return or a space after what is expected is told by a word for it."""
         folder = self.folder
         (folder / "a").write_bytes(
             b"open a card -> client 1\r\na version -> version 1 0 0 \na version ->  \na version -> \n"
@@ -198,7 +198,7 @@ class ChecksTests(FolderCase):
         expect("a malformed file", (ran.returncode, ran.stdout), (2, "malformed:2: malformed\n0 passed, 0 failed\n"))
 
     def test_causes_are_those_without_the_expectation(self):
-        """What stands behind the first ` -> ` is no word of the line that is malformed, and counts for its length alone."""
+        """What stands after the first ` -> ` is no word of the line that is malformed, and counts for its length alone."""
         folder = self.folder
         causes = {
             "a gem_close -> done": "column 12: missing number from 0 to 4294967295",
@@ -285,7 +285,7 @@ class ChecksTests(FolderCase):
         expect("the file", (folder / "a").read_text() == whole + "\n", True)
 
     def test_command_that_explains_a_difference(self):
-        """Its words behind the program's name can be typed as they are told, whatever the file is called; where nothing was answered, and for standard input, none is told."""
+        """Its words after the program's name can be typed as they are told, whatever the file is called; where nothing was answered, and for standard input, none is told."""
         folder = self.folder
         for name in ("a.script", "b c", "it's", "-d", "$HOME", "caf\N{LATIN SMALL LETTER E WITH ACUTE}"):
             (folder / name).write_text("open a card -> client 1\n -> done\na version -> done\n")
@@ -325,7 +325,7 @@ class ChecksTests(FolderCase):
         )
 
     def test_files_are_updated(self):
-        """What came stands behind the arrow; what is met or expects nothing stays as it is."""
+        """What came stands after the arrow; what is met or expects nothing stays as it is."""
         folder = self.folder
         (folder / "a").write_text(WRONG.partition("limits")[0])
         (folder / "b").write_text("open b render -> done")

@@ -5,7 +5,7 @@ What it tests: each call and either hello by the Python (threads and asyncio), C
 with universal planes off; malformed, truncated and late answers; what is pickled.
 
 Each test has its own folder. The last line is `N passed, M failed`; a client whose compiler isn't there is
-skipped, and told so. Standard library only.
+skipped with the reason. Standard library only.
 """
 import asyncio
 import contextlib

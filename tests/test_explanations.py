@@ -632,7 +632,7 @@ KINDS = (1, 6, 7, 10)
 
 
 def audited(text):
-    """What the audits of kinds 1, 6, 7 and 10 tell behind a script, and the script with these questions; None where none can be asked."""
+    """What the audits of kinds 1, 6, 7 and 10 tell after a script, and the script with these questions; None where none can be asked."""
     label = next(label for label in reversed(string.ascii_lowercase) if f" {label} " not in text)
     asked = [(kind, page * PAGE) for kind in KINDS for page in range(PAGES)]
     text += f"open {label} root\n" + "".join(f"{label} audit {kind} {first}\n" for kind, first in asked)
@@ -686,7 +686,7 @@ def at(step, client, call):
 
 
 def passed_on(count):
-    """A script of a client that has so many handles of one buffer, each opened by the name that it gave the one before."""
+    """A script of a client that has N handles of one buffer, each opened by the name that it gave the one before."""
     return "open a card\na buf_create 1\na gem_flink 1\n" + "".join(
         f"a gem_open 1\na gem_flink {i}\n" for i in range(2, count + 1)
     )
@@ -758,7 +758,7 @@ class ExplanationsTests(FolderCase):
         expect_end(run_program("explain", script), 0, "", EXPLAINED_OTHERS)
 
     def test_explanations_agree_with_audits(self):
-        """Behind each line of each script of examples/ where one more root client can be opened that asks the audits."""
+        """After each line of each script of examples/ where one more root client can be opened that asks the audits."""
         folder = self.folder
         compared = 0
         for path in sorted((REPOSITORY / "examples").rglob("*.script")):
@@ -891,7 +891,7 @@ a set_client_cap 2 0
             expect_end(run_program("explain", script, "--line", str(number)), 0, "", told)
         for name, number, told in ANSWERS_OF_EXAMPLES:
             expect_end(explain(name, "--line", str(number)), 0, "", told)
-        # what stands behind the line is not run, and what it expects is passed over
+        # what stands after the line is not run, and what it expects is passed over
         script.write_text("open a card\na gem_close 3 -> done\nfly away\n")
         told = """\
 line 2 is step 2, gem_close by a: denied 22 NoHandleToClose 22

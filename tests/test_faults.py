@@ -6,7 +6,7 @@ and the control socket: audits, journals, and clients that go on meanwhile. The 
 and Rust.
 
 They are planned by the command line, by the control socket, and by the servers of tests in each language. Each test has
-a folder of its own. The last line is `N passed, M failed`. Standard library only.
+its own folder. The last line is `N passed, M failed`. Standard library only.
 """
 import asyncio
 import concurrent.futures

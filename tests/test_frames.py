@@ -183,7 +183,7 @@ def frames_of(session, sign):
 
 
 def exchanged(path, text):
-    """Says this on a connection and ends its side, and gives what is answered until the end."""
+    """Says this on a connection and ends its side, and returns what is answered until the end."""
     with retry(lambda: connect_raw(path)) as connected:
         connected.sendall(text)
         connected.shutdown(socket.SHUT_WR)
@@ -297,7 +297,7 @@ class FramesTests(FolderCase):
             expect("the status", end_of(started).returncode, 0)
 
     def test_full_journal(self):
-        """A request gets the fault. An opening that gets it ends its session, and the server goes on."""
+        """A request gets the fault. An opening that gets it ends its session, and the server continues."""
         with server(self.folder, 2, 0, 0, more=["--limits", "64 8 8 8 8 4 4 2"]) as started:
             expect("a request", exchanged(self.folder / "card", HELLO + VERSION), OPENED + JOURNAL_FULL)
             expect("an opening", exchanged(self.folder / "card", HELLO + VERSION), JOURNAL_FULL)

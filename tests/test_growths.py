@@ -3,7 +3,7 @@
 
 `./test` leaves them as programs, in which each test is run by its name. `tests/refuse.c` is loaded into one and refuses the request. What
 grows is asked for again where it was refused, and everything behind it is then compared as without a refusal; so a refusal that leaves
-something behind makes the test fail. A test that has no memory for values of its own, or for what it begins with, says so and ends. It wants
+something behind makes the test fail. A test that has no memory for own values, or for what it begins with, says so and ends. It wants
 a C compiler and glibc. A line near the end tells how many requests were refused, and the last one is `N passed, M failed`. Standard library
 only.
 """
@@ -22,10 +22,10 @@ from support import REPOSITORY, FolderCase, Skipped, expect, loading, run_tests 
 # how long one run of a test may take
 MOST_SECONDS = 60
 
-# what a test says that has no memory of its own
+# what a test says that has no own memory
 WITHOUT_MEMORY = re.compile(r"error: .*(AllocError|NoMemory)")
 
-# what knows no want of memory: thousands of random calls beside a plain list, and threads that call at once
+# what knows no want of memory: thousands of random calls next to a plain list, and threads that call at once
 OTHERS = re.compile(r"::(random|threads)_")
 
 
@@ -85,7 +85,7 @@ def refused_in_turn(folder: pathlib.Path, crate: str, name: str) -> Iterator[Ran
 
 
 def expect_well(name: str, at: int, ran: Ran) -> None:
-    """The test passes, or has no memory of its own."""
+    """The test passes, or has no own memory."""
     refusals["all"] += ran.refused
     if ran.status != 0 and ran.refused and WITHOUT_MEMORY.search(ran.said):
         refusals["own"] += 1
@@ -136,7 +136,7 @@ class GrowthsTests(FolderCase):
         expect_each(folder, "drm_session_tests", "many")
 
     def test_replays(self):
-        """`Device::new` and `replay`: a refusal for the device is told apart from one at an event."""
+        """`Device::new` and `replay`: a refusal for the device is distinguished from one at an event."""
         folder = self.folder
         name = "replays::replays_stop_where_an_event_is_not_noted"
         said = ""

@@ -115,7 +115,7 @@ class InstructionsTests(FolderCase):
     """Tests of bench/instructions: what a step costs has not grown, and how the tool compares counts."""
 
     def test_no_count_has_grown(self):
-        """By more than 3 percent. Whoever changes a count on purpose runs `bench/instructions --update`."""
+        """By more than 3 percent. If you change a count on purpose, run `bench/instructions --update`."""
         want_program("valgrind")
         want_no_checks("valgrind does not run them")
         ran = run(TOOL, "--part", "--program", PROGRAM, timeout=SECONDS)

@@ -52,7 +52,7 @@ def noted(folder, counts, session):
 
 
 def expect_checked(folder, passed):
-    """The script passes on a device of its own."""
+    """The script passes on its own device."""
     expect_end(run(PROGRAM, "check", folder / "journal"), 0, "", f"{passed} passed, 0 failed\n")
 
 
@@ -124,7 +124,7 @@ close c -> closed
         expect_end(run(PROGRAM, "explain", folder / "journal", "--client", "b"), 0, "", told)
 
     def test_journal_of_hellos_of_version_2(self):
-        """Which openings left universal planes off is noted, as is who turned them on."""
+        """Which openings left universal planes off is recorded, as is who turned them on."""
         folder = self.folder
 
         def session(sockets):
@@ -270,7 +270,7 @@ close a -> closed
         expect_same_of_run(folder, text)
 
     def test_journal_of_the_longest_lines(self):
-        """A call whose line has up to 255 bytes is written as it was asked. A longer one is written by its number."""
+        """A call whose line has up to 255 bytes is written in full. A longer one is written by its number."""
         folder = self.folder
 
         def session(sockets):

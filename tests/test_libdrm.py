@@ -6,7 +6,7 @@ descriptors, forks, killed processes, passed buffers; errnos of missing calls. H
 a node; system calls by their numbers; what a call costs compared with the C client.
 
 Each test has its own folder. The last line is `N passed, M failed`; where there is no C compiler, no libdrm with
-its headers, or no such program, a test is skipped, and told so. Standard library only.
+its headers, or no such program, a test is skipped with the reason. Standard library only.
 """
 import contextlib
 import errno
@@ -114,7 +114,7 @@ MODE_SETCRTC: denied 30 NoModeObject 2
 
 # Lines of worked rows that libdrm has no word for, and that change nothing of what it tells.
 UNSAID = ("audit", "list_handles", "raw", "stamp_read", "stamp_write")
-# How many worked rows are tried: the others have limits of their own, or nothing else that libdrm has a word for, or stand below.
+# How many worked rows are tried: the others have their own limits, or nothing else that libdrm has a word for, or stand below.
 ROWS = 48
 # Worked rows that don't hold for a program over libdrm, and why: each is in docs/LIBDRM.md.
 OTHERWISE = {
@@ -207,7 +207,7 @@ client.close()
 
 
 def costs(folder):
-    """What a call takes through libdrm and by the C client, in nanoseconds, each beside a server of its own.
+    """What a call takes through libdrm and by the C client, in nanoseconds, each next to its own server.
 
     The median of 10,000 calls, or of 1,000 to a server that is slow since it checks itself.
     """
@@ -220,7 +220,7 @@ def costs(folder):
 
 @contextlib.contextmanager
 def begun(folder, what):
-    """The program of shared descriptors, which waits for a line at some place, beside a server."""
+    """The program of shared descriptors, which waits for a line at some place, next to a server."""
     given, program = environment(folder), compiled("tests/libdrm_sharing.c")
     with served(folder) as started, subprocess.Popen(
         [program, what], stdin=subprocess.PIPE, stdout=subprocess.PIPE, text=True, env=given
@@ -594,7 +594,7 @@ another file: done
         )
 
     def test_nodes_are_not_written_to(self):
-        """As in a kernel, and the connection goes on."""
+        """As in a kernel, and the connection continues."""
         folder = self.folder
         expect(
             "what it finds",

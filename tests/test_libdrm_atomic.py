@@ -42,7 +42,7 @@ def shown_calls(journal):
 
 
 def steps_of(folder, frames):
-    """How often each call is in the journal of so many frames on two CRTCs."""
+    """How often each call is in the journal of N frames on two CRTCs."""
     folder.mkdir()
     words = [line[1] for line in commits(folder, "steady", frames, text=f"frames {frames}, failed 0\n")]
     return {word: words.count(word) for word in words}

@@ -1,12 +1,12 @@
 #!/usr/bin/env python3
-"""Tests of frame loops behind clients/libdrm: flips, vertical blanking, events, and programs that show frames.
+"""Tests of frame loops over clients/libdrm: flips, vertical blanking, events, and programs that show frames.
 
 What it tests: page flips, vertical blanking and their events; the steps of a frame, counted in the journal.
 `drm_info` prints the mode that a running `sway` set. `ffmpeg` grabs frames. Frame loops of `modetest`,
 `vbltest`, `kmscube`, `mpv`, `sway` and `cage` for ten seconds each; `tinywl` lights both outputs.
 
 Each test has its own folder. The last line is `N passed, M failed`; where there is no C compiler, no libdrm with
-its headers, or no such program, a test is skipped, and told so. Standard library only.
+its headers, or no such program, a test is skipped with the reason. Standard library only.
 """
 import contextlib
 import json
@@ -46,7 +46,7 @@ def frames(folder, what, text):
 
 
 def steps_of(folder, frames_):
-    """The lines of the journal of a loop of so many frames, each with a cursor that moves."""
+    """The lines of the journal of a loop of N frames, each with a cursor that moves."""
     program, journal = compiled("tests/libdrm_frames.c"), folder / f"{frames_}.script"
     library()
     ran = run(REPOSITORY / "tools/with-server", "--libdrm", "--journal", journal, program, "steady", frames_)
@@ -58,7 +58,7 @@ def steps_of(folder, frames_):
 
 
 def showing(folder, *command, **variables):
-    """What a program prints that shows frames until a line is typed, beside a server."""
+    """What a program prints that shows frames until a line is typed, next to a server."""
     with subprocess.Popen(
         command,
         stdin=subprocess.PIPE,
@@ -117,7 +117,7 @@ exec sleep 4 && drm_info -j > seen && swaymsg exit
 
 @contextlib.contextmanager
 def seated(given):
-    """A seatd that gives the card to somebody who isn't root, and the words by which a program is run as that one."""
+    """A seatd that gives the card to a user that isn't root, and the words by which a program is run as that one."""
     for name in ("seatd", "setpriv"):
         want_program(name)
     if os.geteuid() != 0 or pathlib.Path("/run/seatd.sock").exists():
@@ -140,7 +140,7 @@ def seated(given):
 
 @contextlib.contextmanager
 def compositor(folder, more=()):
-    """A server and what a compositor of wlroots wants beside it: a runner of commands as somebody who isn't root, in a folder of that one's."""
+    """A server and what a compositor of wlroots wants next to it: a runner of commands as a user that isn't root, in a folder of that one's."""
     own = folder / "own"
     own.mkdir(0o700)
     shutil.chown(own, "nobody")
@@ -169,7 +169,7 @@ def steps_until_now(folder):
 
 
 class LibdrmShowsTests(FolderCase):
-    """Tests of frame loops behind clients/libdrm: flips, vertical blanking, events, and programs that show frames."""
+    """Tests of frame loops over clients/libdrm: flips, vertical blanking, events, and programs that show frames."""
 
     def test_frames_come_at_the_rate_of_the_mode(self):
         folder = self.folder
@@ -525,7 +525,7 @@ handles 8
         expect("what is an error to it", re.findall(r".*\[ERROR\].*", ran.stderr), [])
 
     def test_weston_comes_to_its_session(self):
-        """It wants logind or a launcher of its own, and ends where there is neither, before it opens a device."""
+        """It wants logind or its own launcher, and ends where there is neither, before it opens a device."""
         folder = self.folder
         want_program("weston")
         with compositor(folder) as (_, ran_by):

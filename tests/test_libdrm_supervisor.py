@@ -319,7 +319,7 @@ class LibdrmSupervisorTests(FolderCase):
             expect("status", started.wait(SECONDS), 9)
 
     def test_client_ends_with_its_descriptor(self):
-        """Another client learns of it, though the program goes on and makes no call."""
+        """Another client learns of it, though the program continues and makes no call."""
         supervisor()
         words = [WITH_SERVER, "--seccomp", "sh", "-c", 'echo $DRM_SERVER_ROOT; exec "$@"', "sh"]
         streams = {"stdin": subprocess.PIPE, "stdout": subprocess.PIPE, "text": True}

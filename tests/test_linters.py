@@ -1,11 +1,11 @@
 #!/usr/bin/env python3
-"""Runs the usual linters of each language over the clients and the tests, with the configuration that is beside them.
+"""Runs the usual linters of each language over the clients and the tests, with the configuration that is next to them.
 
 What it tests: black, isort, flake8, mypy and ruff over the Python client, rustfmt and clippy over the Rust client,
 clang-format and compilers' warnings over the C client; Python 3.8. A linter that is missing is skipped.
 
 Each test has its own folder. The last line is `N passed, M failed`; a linter that isn't there is skipped, and
-told so. Standard library only.
+with the reason. Standard library only.
 """
 import os
 import shutil
@@ -66,7 +66,7 @@ TOOLS = (
 
 
 def expect_clean(folder, *command, cwd=PYTHON):
-    """A linter that is there finds nothing in the Python client, or in another folder."""
+    """A linter that exists finds nothing in the Python client, or in another folder."""
     want_program(command[0])
     ran = run(*command, cwd=cwd, env={**os.environ, "RUFF_CACHE_DIR": str(folder), "BLACK_CACHE_DIR": str(folder)})
     expect(f"what {command[0]} says", (ran.returncode, ran.stdout if ran.returncode else ""), (0, ""))
@@ -86,7 +86,7 @@ def interpreters_of_pyenv():
     return sorted((REPOSITORY / root / "versions").glob("3.8.*/bin/python3")) if root else []
 
 
-# sessions over a server of its own, by both clients
+# sessions over its own server, by both clients
 OLDEST = """
 import asyncio
 from zirkoshe import AsyncClient, Client, Denied

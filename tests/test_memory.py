@@ -2,7 +2,7 @@
 """Tests of the built program with one of its requests for memory refused: the first, the second, and so on, until none is.
 
 `tests/refuse.c` is loaded into the program and refuses it. Each row and each example is tried so, and a server with
-sessions on its sockets. It wants a C compiler and glibc. A line near the end tells how many requests were refused, and the last
+sessions on its sockets. It needs a C compiler and glibc. A line near the end tells how many requests were refused, and the last
 one is `N passed, M failed`. Standard library only.
 """
 import collections
@@ -44,7 +44,7 @@ from blocks import further_rows, worked_rows  # noqa: E402
 
 APART = "apart 51 NoMemory 12"
 
-# the words of the lines that may want memory
+# the words of the lines that may need memory
 GROWING = {
     "open",
     "create_dumb",
@@ -59,7 +59,7 @@ GROWING = {
     "create_lease",
 }
 
-# each of these words at a line that wants memory: a client's first handle, and the fifth master, do
+# each of these words at a line that needs memory: a client's first handle, and the fifth master, do
 GROWING_SCRIPT = """open a card
 a create_dumb 64 64 32
 a gem_flink 1
@@ -103,12 +103,12 @@ def refusing(note, at):
     return loading("refuse.c", REFUSE_AT=str(at), REFUSE_NOTE=str(note))
 
 
-# how many runs there were in which so many requests were refused
+# how many runs there were in which N requests were refused
 refusals = collections.Counter()
 
 
 def ran_of(note, ended):
-    """A run that has ended, with what it noted."""
+    """A run that has ended, with what it recorded."""
     ran = Ran(ended.returncode, ended.stdout, ended.stderr, *struct.unpack("<3Q", note.read_bytes()))
     refusals[ran.refused] += 1
     return ran
@@ -200,7 +200,7 @@ def expect_refused_step(folder, at, lines, answers):
 
 
 def expect_refusals(folder, lines):
-    """Refuses each request of a script behind the program's start. Gives the words of the lines that wanted memory."""
+    """Refuses each request of a script after the program's start. Returns the words of the lines that wanted memory."""
     words = set()
     for at, ran in refused_in_turn(folder, requests_at_start() + 1, "run", script=text_of(lines)):
         if ran.returncode != 0:
@@ -243,7 +243,7 @@ def script_tests():
 
 
 def expect_unspent(folder, lines, behind, wanted):
-    """The next request behind these lines would be refused; what comes then makes none, and is answered so."""
+    """The next request after these lines would be refused; what comes then makes none, and is answered so."""
     at = run_refusing(folder, 0, "run", script=text_of(lines)).requests + 1
     ran = run_refusing(folder, at, "run", script=text_of(lines + behind))
     expect("status", (ran.returncode, ran.stderr), (0, ""))
@@ -335,7 +335,7 @@ class Clients:
             time.sleep(0.001)
 
     def open(self, who, name, lease):
-        """Opens a client, and gives how that was answered."""
+        """Opens a client, and returns how that was answered."""
         try:
             client = self.reach(name, lambda path: Client(path, lease, MOST_SECONDS))
         except Refusal as refusal:

@@ -6,7 +6,7 @@ the documents' files; a server of a test in each language. Servers in C of a tes
 and 24 that start together.
 
 Each test has its own folder. The last line is `N passed, M failed`; one whose tools aren't there is skipped, and
-told so. Nothing is fetched. Standard library only.
+with the reason. Nothing is fetched. Standard library only.
 """
 import json
 import os
@@ -54,7 +54,7 @@ def program_of(page, language):
 
 
 def tried(*command, **options):
-    """Runs a command that has to end well, and gives what it printed."""
+    """Runs a command that has to end well, and returns what it printed."""
     ran = run(*command, **options)
     if ran.returncode != 0:
         raise AssertionError(f"{' '.join(map(str, command))} gave status {ran.returncode}:\n{ran.stdout}{ran.stderr}")
@@ -95,7 +95,7 @@ def cargo(folder):
 
 
 def copied_crate(folder):
-    """A copy of the crate, beside which cargo may write."""
+    """A copy of the crate, next to which cargo may write."""
     return shutil.copytree(CLIENTS / "rust", folder / "crate")
 
 

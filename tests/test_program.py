@@ -91,7 +91,7 @@ def hold(path, call, answers):
 
 
 def start_holder(path, call):
-    """Such a client in a process of its own, and the answer that it told."""
+    """Such a client in its own process, and the answer that it told."""
     answers, told = multiprocessing.Pipe(duplex=False)
     holder = multiprocessing.Process(target=hold, args=(path, call, told), daemon=True)
     holder.start()
@@ -105,7 +105,7 @@ def kill(holder):
 
 
 def ask_until(asked, call, wanted):
-    """Asks until this is the answer, and gives how often: the end of another connection comes in its own time."""
+    """Asks until this is the answer, and returns how often: the end of another connection comes in its own time."""
     until = time.monotonic() + SECONDS
     times = 1
     while (answer := asked.ask(call)) != wanted:
@@ -127,7 +127,7 @@ def expect_seen_beyond(ran, output):
 
 @contextlib.contextmanager
 def without_descriptors(folder, name, other, count):
-    """A server that accepts so many connections on a socket, of which one is open and others wait, and that has no descriptor for
+    """A server that accepts N connections on a socket, of which one is open and others wait, and that has no descriptor for
     them. Whether the first of these is accepted all the same is the system's affair: its listener may have had a descriptor for it.
     """
     with server(

@@ -3,7 +3,7 @@
 
     tests/test_random.py [--scripts N] [--seconds N] [TEST ..]
 
-runs N scripts (300 where nothing is said), and clients on servers for so many seconds (60). What differs is told with the seed of its
+runs N scripts (300 where nothing is said), and clients on servers for N seconds (60). What differs is told with the seed of its
 script, and `DRM_RANDOM_SEED` begins with another one. The last line is `N passed, M failed`. Standard library only.
 """
 import os
@@ -55,7 +55,7 @@ class Known:
 
 
 class Seen(Known):
-    """The rows of a plain device, of which most lines name something that is there."""
+    """The rows of a plain device, of which most lines name something that exists."""
 
     def __init__(self, plain):
         self.plain = plain
@@ -241,7 +241,7 @@ class Round:
             client.abandon()
 
     def kill_one(self, draw, name):
-        """A client in a process of its own, which is killed."""
+        """A client in its own process, which is killed."""
         words = [CLIENTS / "python/drm-client", getattr(self.server, name)]
         with subprocess.Popen(
             words, stdin=subprocess.PIPE, stdout=subprocess.PIPE, stderr=subprocess.DEVNULL, text=True

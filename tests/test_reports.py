@@ -159,7 +159,7 @@ class ReportsTests(FolderCase):
                     os.close(writer)
 
     def test_fault_ends_the_other_processes(self):
-        """Files behind a fault are not read to their end."""
+        """Files after a fault are not read to their end."""
         os.mkfifo(self.folder / "endless")
         words = [ZIRKOSHE, "check", "--jobs", "2", "absent", "endless"]
         with subprocess.Popen(words, cwd=self.folder, stdout=subprocess.DEVNULL, stderr=subprocess.DEVNULL) as started:

@@ -1,5 +1,5 @@
 #!/usr/bin/env python3
-"""Tests of a server that accepts any number of connections until it is told to end.
+"""Tests of a server that accepts any number of connections until it is asked to end.
 
 What it tests: 1,000 connections one after the other, 64 at once on each socket, and those beyond them. Connections
 without a thread or a descriptor. The end of such a server; the full journal.
@@ -183,7 +183,7 @@ class ServingTests(FolderCase):
             expect_end(stopped(started), 0, "", "device 0 0 0 45\n")
 
     def test_journal_of_many_connections(self):
-        """The journal of a server that goes on passes its check."""
+        """The journal of a server that continues passes its check."""
         folder = self.folder
         with lasting_server(folder, "--journal", str(folder / "journal")) as started:
             for number in range(100):

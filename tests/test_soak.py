@@ -49,10 +49,10 @@ VERSION = bytes.fromhex("02000000 0000")
 # how many connections two sockets of a server accept, of which some are left, and how many hostile clients are at work at once
 CONNECTIONS = 64
 AT_ONCE = 8
-# the worst wait is at most so many times that of a client of an idle server on the same machine, or that of the shortest that counts
+# the worst wait is at most N times that of a client of an idle server on the same machine, or that of the shortest that counts
 RATIO = 20
 SHORTEST = 0.01
-# the median is at most so many times that of the client of the idle server
+# the median is at most N times that of the client of the idle server
 MEDIAN_RATIO = 10
 # the threads of a server that serves one client: its own, that for its standard input's end, that for the log, and one for each listener and the client
 THREADS = 7
@@ -103,7 +103,7 @@ def pass_itself(path):
 
 
 def stop_and_kill(program):
-    """A client of another program, which is stopped while it asks, goes on, and is killed."""
+    """A client of another program, which is stopped while it asks, continues, and is killed."""
 
     def act(path):
         with subprocess.Popen([program, path], stdin=subprocess.DEVNULL, stdout=subprocess.DEVNULL) as asking:

@@ -235,7 +235,7 @@ class StepsTests(FolderCase):
         expect("all", numbers(journal, count=3), (32, [1, 2, 3]))
         expect("of the first", numbers(journal, start=8, rows=10), (10, [9, 10]))
         expect("a client", numbers(journal, Filter(client=11)), (7, [11, 12, 13, 14, 15, 22, 26]))
-        # a journal has labels of its own
+        # a journal has own labels
         label = journal.opened[-1].label
         expect("a label", numbers(journal, Filter(label=label)), (3, [27, 28, 31]))
         expect("a call", numbers(journal, Filter(call="setcrtc")), (5, [6, 14, 15, 18, 22]))

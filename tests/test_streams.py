@@ -4,7 +4,7 @@
 What it tests: input and output that arrive in pieces, end, fail and are interrupted, at each byte; stopped and
 killed programs; requests far ahead of their answers; 48 connections on one processor.
 
-Pipes and sockets do some of that by themselves; for the rest `tests/cut.c` is loaded into the program. It wants Linux and a C
+Pipes and sockets do some of that by themselves; for the rest `tests/cut.c` is loaded into the program. It needs Linux and a C
 compiler. The last line is `N passed, M failed`. Standard library only.
 """
 import contextlib
@@ -43,7 +43,7 @@ PIECES = (1, 2, 3, 7)
 # how long answers are left unread, in seconds
 LATE = 60
 
-# a fault that comes once, behind which the calls would go on, and one for good
+# a fault that comes once, after which the calls would go on, and one for good
 TIMES = (1, 1_000_000_000)
 
 BUFFER = (REPOSITORY / "examples/buffer.script").read_text()
@@ -95,7 +95,7 @@ def piped():
 
 
 def next_line(run):
-    """The next line of a run's output, which comes though its input goes on."""
+    """The next line of a run's output, which comes though its input continues."""
     ready, _, _ = select.select([run.stdout], [], [], SECONDS)
     return run.stdout.readline() if ready else None
 
@@ -150,14 +150,14 @@ def expect_session(folder, text, end, steps, written, piece=1024, name="card", *
 
 
 def said_by(count):
-    """How many steps so many bytes of the hello and VERSION make, with the closing, and what is answered."""
+    """How many steps N bytes of the hello and VERSION make, with the closing, and what is answered."""
     if count < len(HELLO):
         return 0, b""
     return (3, ANSWERS) if count == len(ASKED) else (2, OPENED)
 
 
 def exchange_all(opened, count):
-    """Asks for the version so many times on each connection, as far ahead of the answers as it goes, and reads all answers."""
+    """Asks for the version N times on each connection, as far ahead of the answers as it goes, and reads all answers."""
     until = time.monotonic() + SECONDS
     asked = {one: count * VERSION for one in opened}
     unread = {one: count * len(IS_VERSION) for one in opened}
@@ -177,7 +177,7 @@ def exchange_all(opened, count):
 
 
 def expect_exchanges(folder, counts, count, processors=None):
-    """Serves so many connections, each of which asks so many times at once, on all processors or on these."""
+    """Serves N connections, each of which asks N times at once, on all processors or on these."""
     with server(folder, *counts) as started, contextlib.ExitStack() as made:
         if processors is not None:
             os.sched_setaffinity(started.pid, processors)
@@ -194,11 +194,11 @@ def expect_exchanges(folder, counts, count, processors=None):
         expect_end(end_of(started), 0, "", f"device 0 0 0 {sum(counts) * (count + 2)}\n")
 
 
-# ---- connections that break, beside others
+# ---- connections that break, next to others
 
 
 def wait_for(connected, count):
-    """Waits until so many bytes can be read, and reads none."""
+    """Waits until N bytes can be read, and reads none."""
     until = time.monotonic() + SECONDS
     while len(connected.recv(count, socket.MSG_PEEK)) < count:
         expect("time left", time.monotonic() < until, True)
@@ -417,7 +417,7 @@ class SessionTests(FolderCase):
 
 
 class BreakTests(FolderCase):
-    """Tests: connections that break, beside others."""
+    """Tests: connections that break, next to others."""
 
     def test_connection_that_is_reset(self):
         folder = self.folder

@@ -5,7 +5,7 @@ What it tests: threads that share a client get their own answers and refusals; c
 of another kind than the call's are refused.
 
 Each test has its own folder. The last line is `N passed, M failed`; a client whose compiler isn't there is
-skipped, and told so. Standard library only.
+skipped with the reason. Standard library only.
 """
 import struct
 import subprocess
@@ -42,7 +42,7 @@ ENCODERS = ((5, 3), (6, 2))
 
 
 def in_threads(*actions):
-    """Runs each action in a thread of its own, and gives what each gave or raised."""
+    """Runs each action in its own thread, and returns what each gave or raised."""
     results = [None] * len(actions)
 
     def keep(place, action):

@@ -110,7 +110,7 @@ print(json.dumps([found, support.find_program.cache_info().misses]))
 
 PROSE = REPOSITORY / "tools/prose"
 # how many words and long sentences the comments of tools, tests and clients have at most; the goal is none
-MOST_OLD_WORDS = 402
+MOST_OLD_WORDS = 271
 # a page with one of each thing that the tool lists, and with what it leaves out
 PAGE = """# What stands here
 

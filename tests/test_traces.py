@@ -375,7 +375,7 @@ class TracesTests(FolderCase):
             expect("the first line", parts_of(lines[0])[1], "1")
 
     def test_reader_that_goes(self):
-        """A trace whose reader closed it is written no further. All else goes on."""
+        """A trace whose reader closed it is written no further. All else continues."""
         folder = self.folder
         pipe = folder / "pipe"
         os.mkfifo(pipe)

@@ -33,7 +33,7 @@ WITH_SERVER = REPOSITORY / "tools/with-server"
 TOOL = CLIENTS / "python/drm-client"
 
 
-# a command beside a server of its own
+# a command next to its own server
 
 
 def processes_with(text):
@@ -67,7 +67,7 @@ def expect_status(folder, command, status, output="", error=""):
 
 @contextlib.contextmanager
 def started_in_a_group(folder, program, *command):
-    """A with-server in a process group of its own, which is killed where the test didn't let it end."""
+    """A with-server in its own process group, which is killed where the test didn't let it end."""
     started = subprocess.Popen(
         [str(program), *command],
         stdin=subprocess.DEVNULL,
@@ -138,7 +138,7 @@ def expect_ended_start(folder, script):
 
 
 class WithServerTests(FolderCase):
-    """Tests of tools/with-server, which runs a command beside a server."""
+    """Tests of tools/with-server, which runs a command next to a server."""
 
     def test_with_server_gives_the_status(self):
         folder = self.folder

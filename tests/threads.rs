@@ -1,4 +1,4 @@
-//! A Rust client behind a mutex that two threads share: each asks another encoder 10,000 times, and the answers that are the
+//! A Rust client after a mutex that two threads share: each asks another encoder 10,000 times, and the answers that are the
 //! other's are counted. With a second word it asks once for the version, and prints what that gives.
 #[path = "../clients/rust/src/lib.rs"]
 mod zirkoshe;

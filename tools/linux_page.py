@@ -20,7 +20,7 @@ LEVELS = {
     "few": "Differences that few programs meet",
 }
 # where a function of a kernel is
-SOURCE = "https://elixir.bootlin.com/linux/v6.12/A/ident/"
+SOURCE = "https://elixir.bootlin.com/linux/v6.1/A/ident/"
 REPRESENTED = "Scripts"
 COMPARED = "## What was compared\n"
 NEXT = "## Scripts on a kernel\n"
@@ -41,7 +41,7 @@ does not say so, or if a difference of this page does not show. With `--update` 
 [LIBDRM](LIBDRM.md) lists further differences for programs over libdrm.
 
 The differences that a program is most likely to meet are first. Each links to a script of `examples/linux`, in [this
-form](SCRIPTS.md), and to the kernel's function in Linux 6.12. For another version, replace `v6.12` in the address. A comment
+form](SCRIPTS.md), and to the kernel's function in Linux 6.1. For another version, replace `v6.1` in the address. A comment
 `# linux: ANSWER` has the different answer of the kernels to the line above it, `# linux 6.12: ANSWER` that of one series.
 `errno N` is any refusal. This command checks the server's answers:
 

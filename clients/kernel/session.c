@@ -169,7 +169,7 @@ static void open_client(struct session *session, const struct line *line)
     answer(session, "client %u", number ? (unsigned)number : session->client_count);
 }
 
-// The descriptors that the client got, and nobody took, are closed with it.
+// The descriptors that the client got, and no opening took, are closed with it.
 static void close_descriptors(struct session *session, unsigned owner)
 {
     unsigned i;

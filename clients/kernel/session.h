@@ -1,4 +1,4 @@
-/* A script's clients on a device, and the numbers that the kernel gave them. */
+/* A script's clients on a device, and the kernel's numbers of them. */
 #ifndef DRM_SCRIPT_SESSION_H
 #define DRM_SCRIPT_SESSION_H
 

@@ -280,7 +280,7 @@ int buffers_memory(struct connection *connection, uint32_t handle, uint64_t *siz
     return memory_of(buffer->object);
 }
 
-/* Opens the file of a descriptor anew, so that the two have locks of their own, and watches its
+/* Opens the file of a descriptor anew, so that the two have their own locks, and watches its
  * closing. */
 static int open_anew(int fd, int flags)
 {

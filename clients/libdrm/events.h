@@ -45,7 +45,7 @@ struct events {
 void events_begin(struct events *events);
 void events_end(struct events *events);
 
-/* Returns whether this many more events can wait, beside those that were written and not read. */
+/* Returns whether this many more events can wait, besides those that were written and not read. */
 bool events_have_room(const struct events *events, unsigned count);
 
 /* Adds an event of a kind: that of the vertical blanking of this number and time, at which it is

@@ -1,5 +1,5 @@
 /* The display: one process that has the connections to the server, one for each open file of a
- * node, and all that a driver keeps beside the rules. Programs reach it by the preloaded library
+ * node, and all that a driver keeps besides the rules. Programs reach it by the preloaded library
  * or by a supervisor.
  *
  * Each open file has a thread, and one lock is for all that the threads share. A thread lets the
@@ -21,7 +21,7 @@ void display_lock(void);
 void display_unlock(void);
 
 /* A place in the order of what is done. What changes something is alone, and what only reads may
- * run beside others that do. */
+ * run next to others that do. */
 struct turn {
     struct turn *next; /* of those that wait, or have begun */
     pthread_cond_t may_begin;
@@ -120,7 +120,7 @@ void channel_release(struct channel *channel);
  */
 #define MOST_RECEIVED (MOST_ATTACHED + 2)
 
-/* A packet with what came beside it */
+/* A packet with what was sent along */
 struct packet {
     struct ask ask;
     const uint8_t *argument; /* the struct, */

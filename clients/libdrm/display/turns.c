@@ -45,7 +45,7 @@ void turn_free(struct turn *turn)
     pthread_cond_destroy(&turn->may_begin);
 }
 
-/* Returns whether a turn may begin beside those that have begun and aren't late. */
+/* Returns whether a turn may begin while those run that have begun and are not late. */
 static bool may_begin(const struct turn *turn, int64_t time)
 {
     struct turn *each;

@@ -172,7 +172,7 @@ fn moved(result: io::Result<usize>) -> io::Result<Option<usize>> {
 }
 
 /// Connects. If the listener's queue is full the system waits, and std has no time limit for
-/// that. So another thread connects, which goes on for a while after the time limit.
+/// that. So another thread connects, which continues for a while after the time limit.
 pub(super) fn connect(path: &Path, deadline: &Deadline) -> io::Result<UnixStream> {
     let (sender, receiver) = mpsc::channel();
     let named = path.to_path_buf();
