@@ -1,8 +1,8 @@
 """Terminals and commands of documents, for tests that run them at the top of a checkout or of a package."""
-from libdrm_support import supervisor
 from support import REPOSITORY, Skipped, expect, expect_end, run, want_libdrm, want_program
 
 from blocks import commands_of
+from libdrm_support import supervisor
 
 # what commands of the documents find at the top, where they are run; a package has no benchmark's programs and no crates
 TOP = ("bench", "clients", "crates", "drm_server", "examples", "tools", "zirkoshe")

@@ -52,7 +52,9 @@ REQUESTS = REPOSITORY / "docs/REQUESTS.md"
 SECONDS = 40
 BOOTED = ("rows/leases_are_refused_in_order", "linux/unknown_connector", "linux/lessees_that_lease")
 RANDOM = (1, 2, 3)
-HEAD = "# A title\n# subject: Leases\n# met by: few\n# function: f\n# kernel: It does\n#   this.\n# here: It does that.\n"
+HEAD = (
+    "# A title\n# subject: Leases\n# met by: few\n# function: f\n# kernel: It does\n#   this.\n# here: It does that.\n"
+)
 SCRIPT = "open a card -> client 1\na setcrtc 1 0 99 -> denied 30 NoModeObject 2\n# linux 6.12: errno 22\na version\n"
 
 

@@ -28,7 +28,6 @@ from support import (  # noqa: E402
     run_program,
     run_tests,
     server,
-    want_libdrm,
     want_program,
 )
 

@@ -87,7 +87,8 @@ def reduced(below: Dict[str, Set[str]]) -> Dict[str, Set[str]]:
         return found[name]
 
     return {
-        name: {one for one in ones if not any(one in all_below(other) for other in ones)} for name, ones in below.items()
+        name: {one for one in ones if not any(one in all_below(other) for other in ones)}
+        for name, ones in below.items()
     }
 
 
@@ -198,9 +199,7 @@ def drawn_arrow(way: List[Node], ways: List[List[Node]], middles: Dict[Node, flo
 
 def drawn_box(layer: Layer, middle: float, top: float) -> List[str]:
     left = middle - layer.width() / 2
-    box = (
-        f'<rect class="box" x="{left:.1f}" y="{top:.1f}" width="{layer.width():.1f}" height="{layer.height():.1f}" rx="6"/>'
-    )
+    box = f'<rect class="box" x="{left:.1f}" y="{top:.1f}" width="{layer.width():.1f}" height="{layer.height():.1f}" rx="6"/>'
     title = f'<text class="title" x="{left + PAD:.1f}" y="{top + PAD + 9:.1f}">{layer.name}</text>'
     places = ((divmod(place, layer.lines()), crate) for place, crate in enumerate(layer.crates))
     names = [
