@@ -1,4 +1,4 @@
-"""What a live page shows of the outputs of a display: a small picture of each, and text.
+"""What a live page shows of the outputs of a display: small pictures, and text.
 
 A picture is taken only if a browser asks, and at most ten times a second for all
 browsers together. A browser asks while its page is seen.

@@ -2,7 +2,7 @@
 
     send_hotplug(os.environ["UMOCKDEV_DIR"], 8)
 
-`umockdev` makes a socket in its folder for each program that listens to libudev's messages.
+`umockdev` makes a socket in its folder for each program that listens to libudev.
 A message has the form of systemd's: a header by which listeners filter, and the
 properties of the device.
 """
