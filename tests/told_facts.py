@@ -47,9 +47,9 @@ NOT_IN_SCRIPTS = {
 
 # Sentences that no script can lead to, each with the reason.
 NOT_WRITTEN = {
-    "{name} is not open: no step opened it": "a label names a client that a step opened, or none",
-    "name {name} was allocated by {by} at step {step}": "a name is told with its buffer",
-    "no buffer has name {name}: {by} allocated it at step {step}, and it was removed at step {last} ({call} by {other})": "the same",
+    "{} is not open: no step opened it": "a label names a client that a step opened, or none",
+    "name {} was allocated by {} at step {}": "a name is told with its buffer",
+    "no buffer has name {}: {} allocated it at step {}, and it was removed at step {} ({} by {})": "the same",
     "memory were available": "a script cannot refuse memory",
     "a ticket were left": "a script has no threads",
 }

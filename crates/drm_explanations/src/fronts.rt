@@ -44,17 +44,13 @@ impl Fronts {
         }
     }
 
-    fn at(&self, step: u64) -> Option<Place> {
-        *self.places.get(place_of(step))?
-    }
-
     /// Returns the row that has the first links of a chain, if they are left out.
     pub(crate) fn front_of(&self, end: &ChainEnd) -> Option<FrontRow> {
         let left = end.left.as_ref()?;
-        let place = self.at(left.step)?;
+        let Place { client, handle } = (*self.places.get(place_of(left.step))?)?;
         Some(FrontRow {
-            client: place.client,
-            handle: place.handle,
+            client,
+            handle,
             step: left.step,
         })
     }

@@ -3,6 +3,7 @@
 
 mod clients;
 mod explaining;
+mod forms;
 mod fronts;
 mod leases;
 mod lines;
@@ -11,8 +12,9 @@ mod reasons;
 mod rows;
 
 pub use explaining::explain;
+pub use forms::{Value, put_form};
 pub use lines::{Subject, line_about, lines_of};
-pub use names::{Labels, Name, at};
+pub use names::{Labels, at, label_of};
 pub use reasons::closed_at;
 pub use rows::{
     At, Authenticated, AuthenticatedBy, ClientRow, DeviceRow, Explanation, FrontRow, HandleRow,

@@ -1,26 +1,21 @@
 //! Explanations as lines, each with one subject and the reason after a colon.
 
-use crate::names::{Labels, Name};
+use crate::forms::{Value, put_form};
+use crate::names::Labels;
 use crate::rows::{
-    At, Authenticated, AuthenticatedBy, ClientRow, Explanation, FrontRow, HandleRow, LeaseRow,
-    LinkRow, Node, PublishedBy, PublishedRow, StandingRow,
+    At, AuthenticatedBy, ClientRow, Explanation, FrontRow, HandleRow, LeaseRow, LinkRow, Node,
+    PublishedBy, PublishedRow,
 };
 use drm_modes::{Kind, Topology};
 use std::alloc::{AllocError, Global};
 
 /// The values that lines are written from: the whole explanation, the clients of the labels, and the kinds of mode
 /// objects.
-#[derive(Clone, Copy)]
+#[derive(Drop)]
 struct Context<'a> {
     explanation: &'a Explanation,
     topology: &'a Topology,
     labels: &'a Labels,
-}
-
-impl Context<'_> {
-    fn name(&self, client: u64) -> Name {
-        Name::of(self.labels, client)
-    }
 }
 
 /// Returns the explanation as lines: of the device, of each client with its handles, and of each lease (own).
@@ -58,7 +53,7 @@ pub fn lines_of(
     labels: &Labels,
     only: Option<u64>,
 ) -> Result<String, AllocError> {
-    let context = Context {
+    let context = &Context {
         explanation,
         topology,
         labels,
@@ -88,9 +83,9 @@ pub fn lines_of(
 /// use drm_explanations::Subject;
 ///
 /// let subject = Subject::Client(1);
-/// assert!(rt; subject != Subject::Device);
+/// assert!(rt; matches!(subject, Subject::Client(1)));
 /// ```
-#[derive(Clone, Copy, PartialEq, Debug)]
+#[derive(Clone, Copy, Debug)]
 pub enum Subject {
     /// The device's master.
     Device,
@@ -121,77 +116,70 @@ pub fn line_about(
     subject: Subject,
     text: &mut String,
 ) -> Result<(), AllocError> {
-    let context = Context {
+    let context = &Context {
         explanation,
         topology,
         labels,
     };
+    let row = match subject {
+        Subject::Device => return device_line(context, text),
+        Subject::Lease(master) => {
+            return match explanation.lease(master) {
+                Some(row) => lease_line(alloc, context, row, text),
+                None => Ok(()),
+            };
+        }
+        Subject::Client(client)
+        | Subject::Authentication(client)
+        | Subject::UniversalPlanes(client)
+        | Subject::Master(client)
+        | Subject::Current(client) => explanation.client(client),
+    };
+    let Some(row) = row else {
+        return Ok(());
+    };
     match subject {
-        Subject::Device => device_line(context, text),
-        Subject::Client(client) => match explanation.client(client) {
-            Some(row) => identity_line(context, row, text),
-            None => Ok(()),
-        },
-        Subject::Authentication(client) => match explanation.client(client) {
-            Some(row) => authenticated_line(context, row, text),
-            None => Ok(()),
-        },
-        Subject::UniversalPlanes(client) => match explanation.client(client) {
-            Some(row) => universal_line(context, row, text),
-            None => Ok(()),
-        },
-        Subject::Master(client) => match explanation.client(client) {
-            Some(row) => of_standing(context, row, false, text),
-            None => Ok(()),
-        },
-        Subject::Current(client) => match explanation.client(client) {
-            Some(row) => of_standing(context, row, true, text),
-            None => Ok(()),
-        },
-        Subject::Lease(master) => match explanation.lease(master) {
-            Some(row) => lease_line(alloc, context, row, text),
-            None => Ok(()),
-        },
-    }
-}
-
-/// Writes the reason that a client is current or not, or that it is a master or not.
-fn of_standing(
-    context: Context<'_>,
-    row: &ClientRow,
-    of_current: bool,
-    text: &mut String,
-) -> Result<(), AllocError> {
-    match &row.standing {
-        Some(standing) if of_current => current_line(context, row, standing, text),
-        Some(standing) => master_line(context, row, standing, text),
-        None => Ok(()),
+        Subject::Client(_) => identity_line(context, row, text),
+        Subject::Authentication(_) => authenticated_line(context, row, text),
+        Subject::UniversalPlanes(_) => universal_line(context, row, text),
+        Subject::Master(_) => master_line(context, row, text),
+        _ => current_line(context, row, text),
     }
 }
 
 /// Writes the device's master, and the step since which it has been that.
-fn device_line(context: Context<'_>, text: &mut String) -> Result<(), AllocError> {
-    match context.explanation.device.master {
-        Some(master) => write!(text, "the device's master is {master}: ")?,
+fn device_line(context: &Context<'_>, text: &mut String) -> Result<(), AllocError> {
+    let device = &context.explanation.device;
+    match device.master {
+        Some(master) => put_form(
+            context.labels,
+            "the device's master is {}: ",
+            &[Value::Number(master)],
+            text,
+        )?,
         None => text.push_str("the device has no master: ")?,
     }
-    let Some(since) = context.explanation.device.since else {
+    let Some(At { step, client, call }) = device.since else {
         return text.push_str("no client set one\n");
     };
-    let name = context.name(since.client);
-    let At { step, call, .. } = since;
-    match call {
-        "open" => writeln!(text, "{name} founded it as it opened at step {step}"),
-        "close" => writeln!(text, "its client {name} closed at step {step}"),
-        "drop_master" => writeln!(text, "{name} dropped it at step {step} ({call})"),
-        _ => writeln!(text, "{name} set it at step {step} ({call})"),
-    }
+    let form = match call {
+        "open" => "{} founded it as it opened at step {}\n",
+        "close" => "its client {} closed at step {}\n",
+        "drop_master" => "{} dropped it at step {} ({})\n",
+        _ => "{} set it at step {} ({})\n",
+    };
+    let values = [
+        Value::Client(client),
+        Value::Number(step),
+        Value::Word(call),
+    ];
+    put_form(context.labels, form, &values, text)
 }
 
 /// Writes the lines of one client: how it was opened, and if it is open, its state, rights and handles.
 fn client_lines(
     alloc: Global,
-    context: Context<'_>,
+    context: &Context<'_>,
     row: &ClientRow,
     text: &mut String,
 ) -> Result<(), AllocError> {
@@ -201,130 +189,142 @@ fn client_lines(
     }
     authenticated_line(context, row, text)?;
     universal_line(context, row, text)?;
-    if let Some(standing) = &row.standing {
-        master_line(context, row, standing, text)?;
-        current_line(context, row, standing, text)?;
-        may_set_line(alloc, context, row, standing, text)?;
-    }
+    master_line(context, row, text)?;
+    current_line(context, row, text)?;
+    may_set_line(alloc, context, row, text)?;
     for hold in &row.holds {
         hold_line(context, row.client, hold, text)?;
     }
     Ok(())
 }
 
-fn node_word(node: Node) -> &'static str {
-    match node {
-        Node::Primary => "primary",
-        Node::Render => "render",
-        Node::Lease => "lease",
-    }
-}
-
 /// Writes how a client was opened, and when it was opened and closed.
 fn identity_line(
-    context: Context<'_>,
+    context: &Context<'_>,
     row: &ClientRow,
     text: &mut String,
 ) -> Result<(), AllocError> {
-    let name = context.name(row.client);
-    let client = row.client;
-    let node = node_word(row.node);
+    let node = match row.node {
+        Node::Primary => "primary",
+        Node::Render => "render",
+        Node::Lease => "lease",
+    };
     let by_root = if row.root { " by root" } else { "" };
     let verb = if row.closed.is_some() { "was" } else { "is" };
-    match row.label {
-        Some(_) => write!(text, "{name} {verb} client {client}: ")?,
-        None => write!(text, "client {client} {verb} without a label: ")?,
-    }
-    write!(text, "a {node} client, opened{by_root} at step {client}")?;
+    let client = Value::Number(row.client);
+    let (identity, name) = match row.label {
+        Some(_) => ("{} {} client {}: ", Value::Client(row.client)),
+        None => ("client {} {} without a label: ", client),
+    };
+    let values = [name, Value::Word(verb), client];
+    put_form(context.labels, identity, &values, text)?;
+    let values = [Value::Word(node), Value::Word(by_root), client];
+    put_form(
+        context.labels,
+        "a {} client, opened{} at step {}",
+        &values,
+        text,
+    )?;
     match row.closed {
-        Some(step) => writeln!(text, ", closed at step {step}"),
+        Some(step) => put_form(
+            context.labels,
+            ", closed at step {}\n",
+            &[Value::Number(step)],
+            text,
+        ),
         None => text.push_str("\n"),
     }
 }
 
 /// Writes the reason that a client is authenticated, or that it is not.
 fn authenticated_line(
-    context: Context<'_>,
+    context: &Context<'_>,
     row: &ClientRow,
     text: &mut String,
 ) -> Result<(), AllocError> {
-    let name = context.name(row.client);
-    match &row.authenticated {
-        Some(reason) => {
-            write!(text, "{name} is authenticated: ")?;
-            authentication(context, reason, text)
-        }
-        None if row.node == Node::Render => {
-            writeln!(text, "{name} is not authenticated: it is a render client")
-        }
-        None => writeln!(
-            text,
-            "{name} is not authenticated: it didn't open by root, is no master, and no client named its magic (auth_magic)"
-        ),
-    }
-}
-
-fn authentication(
-    context: Context<'_>,
-    reason: &Authenticated,
-    text: &mut String,
-) -> Result<(), AllocError> {
-    let At { step, client, call } = reason.since;
-    match (reason.by, reason.magic) {
-        (AuthenticatedBy::Root, _) => writeln!(text, "it opened by root at step {step}"),
-        (AuthenticatedBy::Master, _) => writeln!(text, "it is a master"),
-        (AuthenticatedBy::AuthMagic, magic) => {
-            let by = context.name(client);
-            let magic = magic.unwrap_or(0);
-            writeln!(text, "{by} named its magic {magic} at step {step} ({call})")
-        }
-    }
-}
-
-/// Writes the reason that a client is a master, or whose master it has.
-fn master_line(
-    context: Context<'_>,
-    row: &ClientRow,
-    standing: &StandingRow,
-    text: &mut String,
-) -> Result<(), AllocError> {
-    let name = context.name(row.client);
-    let At { step, call, .. } = standing.since;
-    let Some(master) = standing.master else {
-        return writeln!(text, "{name} is no master: it is a render client");
+    let name = Value::Client(row.client);
+    let Some(reason) = &row.authenticated else {
+        let form = match row.node {
+            Node::Render => "{} is not authenticated: it is a render client\n",
+            _ =>
+                "{} is not authenticated: it didn't open by root, is no master, and no client named its magic (auth_magic)\n",
+        };
+        return put_form(context.labels, form, &[name], text);
     };
-    if !standing.is_master {
-        return writeln!(
+    let At { step, client, call } = reason.since;
+    let step = Value::Number(step);
+    match reason.by {
+        AuthenticatedBy::Root => put_form(
+            context.labels,
+            "{} is authenticated: it opened by root at step {}\n",
+            &[name, step],
             text,
-            "{name} is no master: it joined master {master} as it opened at step {step}"
-        );
-    }
-    match (row.node, call) {
-        (Node::Lease, _) => {
-            let id = context
-                .explanation
-                .lease(master)
-                .map(|lease| lease.lessee_id)
-                .unwrap_or(0);
-            writeln!(
+        ),
+        AuthenticatedBy::Master => put_form(
+            context.labels,
+            "{} is authenticated: it is a master\n",
+            &[name],
+            text,
+        ),
+        AuthenticatedBy::AuthMagic => {
+            let magic = Value::Number(reason.magic.unwrap_or(0));
+            put_form(
+                context.labels,
+                "{} is authenticated: {} named its magic {} at step {} ({})\n",
+                &[name, Value::Client(client), magic, step, Value::Word(call)],
                 text,
-                "{name} is a master: it opened lessee {id}, master {master}, by its token at step {step}"
             )
         }
-        (_, "open") => writeln!(
-            text,
-            "{name} is a master: it founded master {master} as it opened at step {step}, when the device had none"
-        ),
-        _ => writeln!(
-            text,
-            "{name} is a master: it founded master {master} at step {step} ({call})"
-        ),
     }
+}
+
+/// Writes the reason that a client is a master, or whose master it has, or nothing if it has no master state.
+fn master_line(
+    context: &Context<'_>,
+    row: &ClientRow,
+    text: &mut String,
+) -> Result<(), AllocError> {
+    let Some(standing) = &row.standing else {
+        return Ok(());
+    };
+    let name = Value::Client(row.client);
+    let Some(master) = standing.master else {
+        let form = "{} is no master: it is a render client\n";
+        return put_form(context.labels, form, &[name], text);
+    };
+    let At { step, call, .. } = standing.since;
+    if standing.is_master && matches!(row.node, Node::Lease) {
+        let lessee = match context.explanation.lease(master) {
+            Some(lease) => lease.lessee_id,
+            None => 0,
+        };
+        let form = "{} is a master: it opened lessee {}, master {}, by its token at step {}\n";
+        let values = [
+            name,
+            Value::Number(lessee),
+            Value::Number(master),
+            Value::Number(step),
+        ];
+        return put_form(context.labels, form, &values, text);
+    }
+    let form = match (standing.is_master, call) {
+        (false, _) => "{} is no master: it joined master {} as it opened at step {}\n",
+        (true, "open") =>
+            "{} is a master: it founded master {} as it opened at step {}, when the device had none\n",
+        (true, _) => "{} is a master: it founded master {} at step {} ({})\n",
+    };
+    let values = [
+        name,
+        Value::Number(master),
+        Value::Number(step),
+        Value::Word(call),
+    ];
+    put_form(context.labels, form, &values, text)
 }
 
 /// Writes the reason that a client has universal planes off, or nothing if it has them on.
 fn universal_line(
-    context: Context<'_>,
+    context: &Context<'_>,
     row: &ClientRow,
     text: &mut String,
 ) -> Result<(), AllocError> {
@@ -334,83 +334,81 @@ fn universal_line(
     if universal.on {
         return Ok(());
     }
-    let name = context.name(row.client);
     let At { step, call, .. } = universal.since;
-    match call {
-        "open" => writeln!(
-            text,
-            "{name} has universal planes off: it opened without them at step {step}"
-        ),
-        _ => writeln!(
-            text,
-            "{name} has universal planes off: it turned them off at step {step} ({call})"
-        ),
-    }
+    let form = match call {
+        "open" => "{} has universal planes off: it opened without them at step {}\n",
+        _ => "{} has universal planes off: it turned them off at step {} ({})\n",
+    };
+    let values = [
+        Value::Client(row.client),
+        Value::Number(step),
+        Value::Word(call),
+    ];
+    put_form(context.labels, form, &values, text)
 }
 
-/// Writes the reason that a client is current, or that it is not.
+/// Writes the reason that a client is current, or that it is not, or nothing if it has no master.
 fn current_line(
-    context: Context<'_>,
+    context: &Context<'_>,
     row: &ClientRow,
-    standing: &StandingRow,
     text: &mut String,
 ) -> Result<(), AllocError> {
+    let Some(standing) = &row.standing else {
+        return Ok(());
+    };
     let (Some(master), Some(owner)) = (standing.master, standing.owner) else {
         return Ok(());
     };
-    let name = context.name(row.client);
-    if !standing.is_master {
-        return writeln!(text, "{name} is not current: it is no master");
+    let form = match (standing.is_master, standing.current, owner == master) {
+        (false, _, _) => "{} is not current: it is no master\n",
+        (true, true, true) => "{} is current: its master {} is the device's\n",
+        (true, true, false) =>
+            "{} is current: the owner of its master {} is {}, the device's master\n",
+        (true, false, true) => "{} is not current: its master is {}",
+        (true, false, false) => "{} is not current: the owner of its master {} is {}",
+    };
+    let values = [
+        Value::Client(row.client),
+        Value::Number(master),
+        Value::Number(owner),
+    ];
+    put_form(context.labels, form, &values, text)?;
+    if standing.current || !standing.is_master {
+        return Ok(());
     }
-    match (standing.current, owner == master) {
-        (true, true) => writeln!(
-            text,
-            "{name} is current: its master {master} is the device's"
-        ),
-        (true, false) => writeln!(
-            text,
-            "{name} is current: the owner of its master {master} is {owner}, the device's master"
-        ),
-        (false, true) => {
-            write!(text, "{name} is not current: its master is {master}")?;
-            other_master(context, text)
-        }
-        (false, false) => {
-            write!(
-                text,
-                "{name} is not current: the owner of its master {master} is {owner}"
-            )?;
-            other_master(context, text)
-        }
-    }
-}
-
-/// Writes the device's master, which is not that of the client.
-fn other_master(context: Context<'_>, text: &mut String) -> Result<(), AllocError> {
     match context.explanation.device.master {
-        Some(other) => writeln!(text, ", and the device's is {other}"),
+        Some(other) => put_form(
+            context.labels,
+            ", and the device's is {}\n",
+            &[Value::Number(other)],
+            text,
+        ),
         None => text.push_str(", and the device has none\n"),
     }
 }
 
-/// Writes the CRTCs and planes that a client may set, and the reason.
+/// Writes the CRTCs and planes that a client may set, and the reason, or nothing if it has no master state.
 fn may_set_line(
     alloc: Global,
-    context: Context<'_>,
+    context: &Context<'_>,
     row: &ClientRow,
-    standing: &StandingRow,
     text: &mut String,
 ) -> Result<(), AllocError> {
-    let name = context.name(row.client);
+    let Some(standing) = &row.standing else {
+        return Ok(());
+    };
+    let name = Value::Client(row.client);
     if !standing.current {
-        return writeln!(text, "{name} may set nothing: it is not current");
+        let form = "{} may set nothing: it is not current\n";
+        return put_form(context.labels, form, &[name], text);
     }
-    let lease = standing
-        .master
-        .and_then(|master| context.explanation.lease(master));
-    write!(text, "{name} may set ")?;
+    put_form(context.labels, "{} may set ", &[name], text)?;
     write_objects(context, &row.may_set, text)?;
     text.push_str(": ")?;
+    let lease = match standing.master {
+        Some(master) => context.explanation.lease(master),
+        None => None,
+    };
     match lease {
         None => text.push_str("it is current, and its master is no lessee\n"),
         Some(lease) => lease_chain(alloc, context, lease, text),
@@ -428,94 +426,105 @@ fn kind_word(kind: Option<Kind>) -> &'static str {
 }
 
 /// Writes mode objects by their kinds, or nothing if there are none.
-fn write_objects(context: Context<'_>, ids: &[u32], text: &mut String) -> Result<(), AllocError> {
-    if ids.is_empty() {
+fn write_objects(context: &Context<'_>, ids: &[u32], text: &mut String) -> Result<(), AllocError> {
+    let Some((last, front)) = ids.split_last() else {
         return text.push_str("nothing");
-    }
-    for (place, id) in ids.iter().enumerate() {
-        let between = match place {
-            0 => "",
-            _ if place + 1 == ids.len() => " and ",
-            _ => ", ",
-        };
-        let kind = kind_word(context.topology.kind(*id));
-        write!(text, "{between}{kind} {id}")?;
-    }
-    Ok(())
-}
-
-/// Writes the earlier line that has the first links of a chain, and their last step, if they are left out.
-fn front_words(
-    context: Context<'_>,
-    front: Option<&FrontRow>,
-    text: &mut String,
-) -> Result<(), AllocError> {
-    let Some(front) = front else {
-        return Ok(());
     };
-    let name = context.name(front.client);
-    let FrontRow { handle, step, .. } = front;
-    write!(text, "as handle {handle} of {name} up to step {step}, ")
+    let mut between = "";
+    for id in front {
+        let kind = kind_word(context.topology.kind(*id));
+        let values = [Value::Word(between), Value::Word(kind), Value::Id(*id)];
+        put_form(context.labels, "{}{} {}", &values, text)?;
+        between = ", ";
+    }
+    let between = if front.is_empty() { "" } else { " and " };
+    let kind = kind_word(context.topology.kind(*last));
+    let values = [Value::Word(between), Value::Word(kind), Value::Id(*last)];
+    put_form(context.labels, "{}{} {}", &values, text)
 }
 
-/// Writes a handle, and the chain by which the client obtained it.
+/// Writes a handle, and the chain by which the client obtained it. If an earlier line has the first links of the chain,
+/// it writes that line's handle and the last step of these links.
 fn hold_line(
-    context: Context<'_>,
+    context: &Context<'_>,
     client: u64,
     hold: &HandleRow,
     text: &mut String,
 ) -> Result<(), AllocError> {
-    let name = context.name(client);
-    let HandleRow { handle, object, .. } = hold;
-    write!(text, "{name} holds buffer {object} as handle {handle}: ")?;
-    front_words(context, hold.front.as_ref(), text)?;
-    for (place, link) in hold.chain.iter().enumerate() {
-        if place > 0 {
-            text.push_str(", ")?;
-        }
+    let (object, handle) = (Value::Number(hold.object), Value::Number(hold.handle));
+    let values = [Value::Client(client), object, handle];
+    put_form(
+        context.labels,
+        "{} holds buffer {} as handle {}: ",
+        &values,
+        text,
+    )?;
+    if let Some(
+        FrontRow {
+            client,
+            handle,
+            step,
+        },
+    ) = &hold.front
+    {
+        let values = [
+            Value::Number(*handle),
+            Value::Client(*client),
+            Value::Number(*step),
+        ];
+        put_form(
+            context.labels,
+            "as handle {} of {} up to step {}, ",
+            &values,
+            text,
+        )?;
+    }
+    let mut between = "";
+    for link in &hold.chain {
+        text.push_str(between)?;
         link_words(context, link, text)?;
+        between = ", ";
     }
     text.push_str("\n")
 }
 
 /// Writes how an object was published, and the handle that was assigned for that.
-fn link_words(context: Context<'_>, link: &LinkRow, text: &mut String) -> Result<(), AllocError> {
+fn link_words(context: &Context<'_>, link: &LinkRow, text: &mut String) -> Result<(), AllocError> {
     let At { step, client, call } = link.given;
-    let name = context.name(client);
-    let Some(published) = &link.published else {
-        return write!(text, "made by {name} at step {step} ({call})");
+    let (name, step, call) = (
+        Value::Client(client),
+        Value::Number(step),
+        Value::Word(call),
+    );
+    let Some(PublishedRow { by, number, at }) = &link.published else {
+        let form = "made by {} at step {} ({})";
+        return put_form(context.labels, form, &[name, step, call], text);
     };
-    published_words(published, text)?;
-    match published.by {
-        PublishedBy::Name => write!(text, ", opened by {name} at step {step}"),
-        PublishedBy::Token => write!(text, ", imported by {name} at step {step}"),
-        PublishedBy::Framebuffer => write!(text, ", returned to {name} at step {step} ({call})"),
-    }
-}
-
-fn published_words(published: &PublishedRow, text: &mut String) -> Result<(), AllocError> {
-    let PublishedRow { number, at, .. } = published;
-    let step = at.step;
-    match published.by {
-        PublishedBy::Name => write!(text, "named at step {step} (name {number})"),
-        PublishedBy::Token => write!(text, "exported at step {step} (token {number})"),
-        PublishedBy::Framebuffer => write!(text, "added at step {step} (framebuffer {number})"),
-    }
+    let form = match by {
+        PublishedBy::Name => "named at step {} (name {}), opened by {} at step {}",
+        PublishedBy::Token => "exported at step {} (token {}), imported by {} at step {}",
+        PublishedBy::Framebuffer =>
+            "added at step {} (framebuffer {}), returned to {} at step {} ({})",
+    };
+    let values = [
+        Value::Number(at.step),
+        Value::Number(*number),
+        name,
+        step,
+        call,
+    ];
+    put_form(context.labels, form, &values, text)
 }
 
 /// Writes a lease: what it has, the leases above it, or the step that ended it.
 fn lease_line(
     alloc: Global,
-    context: Context<'_>,
+    context: &Context<'_>,
     row: &LeaseRow,
     text: &mut String,
 ) -> Result<(), AllocError> {
-    let LeaseRow {
-        lessee_id,
-        master,
-        ..
-    } = row;
-    write!(text, "lessee {lessee_id}, master {master}, has ")?;
+    let values = [Value::Number(row.lessee_id), Value::Number(row.master)];
+    put_form(context.labels, "lessee {}, master {}, has ", &values, text)?;
     match row.ended {
         None => write_objects(context, &row.mode_objects, text)?,
         Some(_) => text.push_str("nothing")?,
@@ -524,28 +533,26 @@ fn lease_line(
     lease_chain(alloc, context, row, text)
 }
 
-/// Returns the lease of a master. Leases are in the order of their creation, so that none is older than the first.
-fn lease_of(explanation: &Explanation, master: u64) -> Option<&LeaseRow> {
-    let first = explanation.leases.first()?;
-    if master < first.master {
-        return None;
-    }
-    explanation.lease(master)
-}
-
-/// Returns the lessees above one, by their leases, the nearest first. Each is older than the one below it.
+/// Returns the lessees above one, by their leases, the nearest first. Each is older than the one below it. Leases are in
+/// the order of their creation, so that no lessee is older than the first.
 fn lessees_above(
     alloc: Global,
     explanation: &Explanation,
     lessor: Option<u64>,
 ) -> Result<Vec<u64>, AllocError> {
     let mut above = Vec::new(alloc);
+    let Some(first) = explanation.leases.first() else {
+        return Ok(above);
+    };
     let mut lessor = lessor;
     for _ in 0..explanation.leases.len() {
         let Some(master) = lessor else {
             return Ok(above);
         };
-        let Some(lease) = lease_of(explanation, master) else {
+        if master < first.master {
+            return Ok(above);
+        }
+        let Some(lease) = explanation.lease(master) else {
             return Ok(above);
         };
         above.push(master)?;
@@ -557,7 +564,7 @@ fn lessees_above(
 /// Writes the leases above a lessee, from the one that an owner created on, and the step that ended the last.
 fn lease_chain(
     alloc: Global,
-    context: Context<'_>,
+    context: &Context<'_>,
     row: &LeaseRow,
     text: &mut String,
 ) -> Result<(), AllocError> {
@@ -569,35 +576,44 @@ fn lease_chain(
         }
     }
     lease_words(context, row, text)?;
-    if let Some(ended) = row.ended {
-        let name = context.name(ended.client);
-        let At { step, call, .. } = ended;
-        match call {
-            "close" => write!(text, ", ended at step {step} as {name} closed")?,
-            _ => write!(text, ", ended at step {step} ({call} by {name})")?,
+    let Some(At { step, client, call }) = row.ended else {
+        return text.push_str("\n");
+    };
+    let (step, name, call_word) = (
+        Value::Number(step),
+        Value::Client(client),
+        Value::Word(call),
+    );
+    match call {
+        "close" => put_form(
+            context.labels,
+            ", ended at step {} as {} closed\n",
+            &[step, name],
+            text,
+        ),
+        _ => {
+            let values = [step, call_word, name];
+            put_form(
+                context.labels,
+                ", ended at step {} ({} by {})\n",
+                &values,
+                text,
+            )
         }
     }
-    text.push_str("\n")
 }
 
 /// Writes the client that leased, the lessee's id, and the client that redeemed its token.
-fn lease_words(context: Context<'_>, row: &LeaseRow, text: &mut String) -> Result<(), AllocError> {
-    let name = context.name(row.leased.client);
-    let LeaseRow {
-        lessee_id,
-        token,
-        leased,
-        ..
-    } = row;
-    let step = leased.step;
-    write!(
-        text,
-        "leased by {name} at step {step} (lessee {lessee_id}, token {token})"
-    )?;
+fn lease_words(context: &Context<'_>, row: &LeaseRow, text: &mut String) -> Result<(), AllocError> {
+    let At { step, client, .. } = row.leased;
+    let (lessee, token) = (Value::Number(row.lessee_id), Value::Number(row.token));
+    let values = [Value::Client(client), Value::Number(step), lessee, token];
+    let form = "leased by {} at step {} (lessee {}, token {})";
+    put_form(context.labels, form, &values, text)?;
     match row.redeemed_by {
         Some(client) => {
-            let redeemer = context.name(client);
-            write!(text, ", redeemed by {redeemer} at step {client}")
+            let values = [Value::Client(client), Value::Number(client)];
+            put_form(context.labels, ", redeemed by {} at step {}", &values, text)
         }
         None => text.push_str(", not redeemed"),
     }

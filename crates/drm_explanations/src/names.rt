@@ -9,13 +9,12 @@ ghost use Rattle.drm_explanations.specs.Steps as specs;
 use crate::rows::At;
 use drm_rights::{Step, step_at};
 use drm_table::{CallKind, Event};
-use std::fmt;
 
 /// The clients that the labels of a script name, the first for `a`. A label that names no client has 0 (own).
 pub type Labels = [u32; 26];
 
-/// Returns the label that names a client, or `None`.
-pub(crate) fn label_of(labels: &Labels, client: u64) -> Option<char>
+/// Returns the label that names a client, or `None` (own). Does not allocate.
+pub fn label_of(labels: &Labels, client: u64) -> Option<char>
     ensures { result ≡ rows.label_of labels.now client }
 {
     for (place, named) in labels.iter().enumerate() {
@@ -24,50 +23,6 @@ pub(crate) fn label_of(labels: &Labels, client: u64) -> Option<char>
         }
     }
     None
-}
-
-/// The name of a client: its label if it has one, or its number (own).
-///
-/// # Examples
-///
-/// ```rust
-/// use drm_explanations::Name;
-///
-/// let mut labels = [0; 26];
-/// labels[0] = 1;
-/// assert!(rt; Name::of(&labels, 1) != Name::of(&labels, 2));
-/// ```
-#[derive(Clone, Copy, PartialEq, Debug)]
-pub struct Name {
-    client: u64,
-    label: Option<char>,
-}
-
-impl Name {
-    /// Returns the name of a client, with these labels. Does not allocate.
-    pub fn of(labels: &Labels, client: u64) -> Name {
-        Name {
-            client,
-            label: label_of(labels, client),
-        }
-    }
-
-    /// Returns the label that names the client, or `None`. Does not allocate.
-    pub fn label(&self) -> Option<char> {
-        self.label
-    }
-}
-
-impl fmt::Display for Name {
-    fn fmt<W: fmt::Write>(&self, f: &mut fmt::Formatter<W>) -> fmt::Result {
-        match self.label {
-            Some(label) => write!(f, "{label}"),
-            None => {
-                let client = self.client;
-                write!(f, "client {client}")
-            }
-        }
-    }
 }
 
 /// Returns the word of a call in a script.

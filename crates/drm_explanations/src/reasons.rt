@@ -135,11 +135,6 @@ fn chain_rows(alloc: Global, steps: &[Step], links: &[Link]) -> Result<Vec<LinkR
     Ok(rows)
 }
 
-/// Returns the number of steps up to this one.
-fn count_to(number: u64) -> usize {
-    usize::try_from(number).unwrap_or(usize::MAX)
-}
-
 /// Returns the row of a client's handle, and records the links of its chain.
 fn hold_row(
     alloc: Global,
@@ -159,7 +154,8 @@ fn hold_row(
         front: None,
         chain: Vec::new(alloc),
     };
-    let end = trail.chain_end_of(alloc, count_to(step), client, handle, fronts.marks())?;
+    let count = usize::try_from(step).unwrap_or(usize::MAX);
+    let end = trail.chain_end_of(alloc, count, client, handle, fronts.marks())?;
     if let Some(end) = end {
         let links = end.links.as_slice();
         row.front = fronts.front_of(&end);

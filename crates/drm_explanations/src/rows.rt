@@ -3,7 +3,7 @@
 use serde::Serialize;
 
 /// A step with its caller and its call, or with `open` or `close` (own).
-#[derive(Clone, Copy, PartialEq, Debug, Serialize)]
+#[derive(Clone, Copy, Debug, Serialize)]
 pub struct At {
     /// The number of the step, from 1.
     pub step: u64,
@@ -24,7 +24,7 @@ pub struct At {
 /// let device = DeviceRow { master: Some(1), since: Some(opened) };
 /// assert!(rt; device.master == Some(1));
 /// ```
-#[derive(Clone, Copy, PartialEq, Debug, Serialize)]
+#[derive(Debug, Drop, Serialize)]
 pub struct DeviceRow {
     /// The master, or `None` if there is none.
     pub master: Option<u64>,
@@ -33,7 +33,7 @@ pub struct DeviceRow {
 }
 
 /// The kind of a client's opening (drm-uapi, render nodes; lease tokens are own).
-#[derive(Clone, Copy, PartialEq, Debug, Serialize)]
+#[derive(Clone, Copy, Debug, Serialize)]
 #[serde(rename_all = "snake_case")]
 pub enum Node {
     Primary,
@@ -42,7 +42,7 @@ pub enum Node {
 }
 
 /// The reason a client is authenticated (drm(7)).
-#[derive(Clone, Copy, PartialEq, Debug, Serialize)]
+#[derive(Clone, Copy, Debug, Serialize)]
 #[serde(rename_all = "snake_case")]
 pub enum AuthenticatedBy {
     Root,
@@ -61,7 +61,7 @@ pub enum AuthenticatedBy {
 /// let authenticated = Authenticated { by: AuthenticatedBy::Root, since: opened, magic: None };
 /// assert!(rt; authenticated.magic.is_none());
 /// ```
-#[derive(Clone, Copy, PartialEq, Debug, Serialize)]
+#[derive(Debug, Drop, Serialize)]
 pub struct Authenticated {
     /// The reason.
     pub by: AuthenticatedBy,
@@ -72,7 +72,7 @@ pub struct Authenticated {
 }
 
 /// The universal-planes capability of a client (drm-uapi).
-#[derive(Clone, Copy, PartialEq, Debug, Serialize)]
+#[derive(Debug, Drop, Serialize)]
 pub struct UniversalRow {
     /// Whether universal planes are on.
     pub on: bool,
@@ -97,7 +97,7 @@ pub struct UniversalRow {
 /// };
 /// assert!(rt; standing.current);
 /// ```
-#[derive(Clone, Copy, PartialEq, Debug, Serialize)]
+#[derive(Debug, Drop, Serialize)]
 pub struct StandingRow {
     /// Whether the client has an own master.
     pub is_master: bool,
@@ -112,7 +112,7 @@ pub struct StandingRow {
 }
 
 /// The kind of key under which an object was published (drm-gem(7), drm-mm, drm-uapi).
-#[derive(Clone, Copy, PartialEq, Debug, Serialize)]
+#[derive(Clone, Copy, Debug, Serialize)]
 #[serde(rename_all = "snake_case")]
 pub enum PublishedBy {
     Name,
@@ -131,7 +131,7 @@ pub enum PublishedBy {
 /// let published = PublishedRow { by: PublishedBy::Name, number: 1, at: opened };
 /// assert!(rt; published.number == 1);
 /// ```
-#[derive(Clone, Copy, PartialEq, Debug, Serialize)]
+#[derive(Debug, Drop, Serialize)]
 pub struct PublishedRow {
     /// The kind of the key.
     pub by: PublishedBy,
@@ -152,7 +152,7 @@ pub struct PublishedRow {
 /// let link = LinkRow { published: None, handle: 1, given: opened };
 /// assert!(rt; link.published.is_none());
 /// ```
-#[derive(Clone, Copy, PartialEq, Debug, Serialize)]
+#[derive(Debug, Drop, Serialize)]
 pub struct LinkRow {
     /// The step that published the object before, or `None` if this step created the object.
     pub published: Option<PublishedRow>,
@@ -172,7 +172,7 @@ pub struct LinkRow {
 /// let front = FrontRow { client: 1, handle: 2, step: 3 };
 /// assert!(rt; front.handle == 2);
 /// ```
-#[derive(Clone, Copy, PartialEq, Debug, Serialize)]
+#[derive(Debug, Drop, Serialize)]
 pub struct FrontRow {
     /// The client of the earlier row.
     pub client: u64,
@@ -197,7 +197,7 @@ pub struct FrontRow {
 /// let held = HandleRow { handle: 1, object: 2, front: None, chain };
 /// assert!(rt; held.object == 2);
 /// ```
-#[derive(PartialEq, Debug, Drop, Serialize)]
+#[derive(Debug, Drop, Serialize)]
 pub struct HandleRow {
     /// The handle.
     pub handle: u64,
@@ -228,9 +228,9 @@ pub struct HandleRow {
 /// labels[0] = 1;
 /// let Ok(explanation) = explain(alloc, &ledger, &topology, &labels, None) else { return };
 /// let Some(row) = explanation.client(1) else { return };
-/// assert!(rt; row.label == Some('a') && row.node == Node::Render);
+/// assert!(rt; row.label == Some('a') && matches!(row.node, Node::Render));
 /// ```
-#[derive(PartialEq, Debug, Drop, Serialize)]
+#[derive(Debug, Drop, Serialize)]
 pub struct ClientRow {
     /// The client.
     pub client: u64,
@@ -275,7 +275,7 @@ pub struct ClientRow {
 /// };
 /// assert!(rt; lease.redeemed_by.is_none());
 /// ```
-#[derive(PartialEq, Debug, Drop, Serialize)]
+#[derive(Debug, Drop, Serialize)]
 pub struct LeaseRow {
     /// The lessee, by the number of the step.
     pub master: u64,
@@ -315,7 +315,7 @@ pub struct LeaseRow {
 /// explanation.retain_client(2);
 /// assert!(rt; explanation.clients.is_empty());
 /// ```
-#[derive(PartialEq, Debug, Drop, Serialize)]
+#[derive(Debug, Drop, Serialize)]
 pub struct Explanation {
     /// The number of steps.
     pub steps: u64,

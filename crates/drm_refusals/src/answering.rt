@@ -17,14 +17,14 @@ use crate::denials::reasons;
 use crate::remedies::{remedy, remedy_apart};
 use crate::room::full_journal;
 use crate::rows::AnswerRow;
-use drm_explanations::{Labels, Name, at};
+use drm_explanations::{Labels, at, label_of};
 use drm_modes::Topology;
 use drm_rights::{Ledger, Step};
 use drm_table::{Answer, Apart, Event, Limits};
 use std::alloc::{AllocError, Global};
 
 /// An answered line of a script (own).
-#[derive(PartialEq, Debug, Drop)]
+#[derive(Debug, Drop)]
 pub struct Line {
     /// The number of the line, from 1.
     pub number: u64,
@@ -34,14 +34,14 @@ pub struct Line {
     pub apart: Option<Apart>,
 }
 
-/// Returns the caller's client, or `None` if the step opens a client or the label names no client.
-fn caller_of(step: &Step) -> Option<u64> {
-    let client = match &step.event {
-        Event::Open(_) => 0,
-        Event::Ask(client, _) => u64::from(*client),
-        Event::Close(client) => u64::from(*client),
-    };
-    if client == 0 { None } else { Some(client) }
+/// Returns the label of the caller, or `None` if the step opens a client or no label names the caller.
+fn label_of_caller(step: &Step, labels: &Labels) -> Option<char> {
+    match &step.event {
+        Event::Ask(client, _) | Event::Close(client) if *client != 0 => {
+            label_of(labels, u64::from(*client))
+        }
+        _ => None,
+    }
 }
 
 /// Returns the row of a fault.
@@ -91,11 +91,10 @@ fn step_row(
     ensures facts { IfOk result (λ row. All (facts.Holds context.entry.topology.now context.entry.limits context.entry.ledger.now) row.facts.items) }
 {
     let steps = context.ledger.steps();
-    let label = caller_of(step).and_then(|client| Name::of(labels, client).label());
     let mut row = AnswerRow {
         line: line.number,
         asked: at(steps, steps.len() as u64),
-        label,
+        label: label_of_caller(step, labels),
         answer: line.answer,
         is_carried_out: true,
         rule: None,

@@ -6,7 +6,7 @@ ghost use Rattle.drm_refusals.specs.Facts as facts;
 ghost use Rattle.drm_refusals.specs.Kinds as kinds;
 
 use crate::collecting::{only, with};
-use crate::context::{Context, first_steps};
+use crate::context::Context;
 use crate::facts::{Fact, HandleFact, PublishedFact};
 use crate::publications::publication;
 use crate::searching::{Search, last};
@@ -69,15 +69,6 @@ fn missing(context: Context<'_>, client: u64, call: &Call) -> Option<Fact>
     }
 }
 
-/// Returns the handles that a client holds.
-fn held(alloc: Global, context: Context<'_>, client: u64) -> Result<Fact, AllocError>
-    ensures is { IfOk result (λ fact. kinds.is_held fact ≡ true) }
-    ensures holds { IfOk result (facts.Holds context.entry.topology.now context.entry.limits context.entry.ledger.now) }
-{
-    let held = handles_of(alloc, context.ledger.steps(), client)?;
-    Ok(Fact::Handle(HandleFact::Holds { client, held }))
-}
-
 /// Returns the reason a client does not hold the handle of a call, and the handles that it holds.
 pub(crate) fn no_handle(
     alloc: Global,
@@ -89,7 +80,8 @@ pub(crate) fn no_handle(
     ensures holds { IfOk result (λ found. All (facts.Holds context.entry.topology.now context.entry.limits context.entry.ledger.now) found.items) }
 {
     let found = only(alloc, context, missing(context, client, call))?;
-    let held = held(alloc, context, client)?;
+    let held = handles_of(alloc, context.ledger.steps(), client)?;
+    let held = Fact::Handle(HandleFact::Holds { client, held });
     with(context, found, Some(held))
 }
 
@@ -109,7 +101,8 @@ fn gives_back(
         }
         (Event::Close(client), Answer::Closed) => {
             let client = u64::from(*client);
-            for held in &handles_of(alloc, first_steps(trail.steps(), before), client)? {
+            let steps = trail.steps();
+            for held in &handles_of(alloc, steps.get(..before).unwrap_or(steps), client)? {
                 if trail.object_of(before, client, held.handle) == Some(object) {
                     return Ok(true);
                 }

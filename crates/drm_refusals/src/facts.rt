@@ -13,9 +13,9 @@ use drm_table::CallKind;
 /// use drm_refusals::{ClientFact, Fact};
 ///
 /// let fact = Fact::Client(ClientFact::NeverOpened { client: 1 });
-/// assert!(rt; fact == Fact::Client(ClientFact::NeverOpened { client: 1 }));
+/// assert!(rt; matches!(fact, Fact::Client(ClientFact::NeverOpened { client: 1 })));
 /// ```
-#[derive(PartialEq, Debug, Drop)]
+#[derive(Debug, Drop)]
 pub enum Fact {
     Client(ClientFact),
     Handle(HandleFact),
@@ -31,7 +31,7 @@ pub enum Fact {
 }
 
 /// A client that is not open (own).
-#[derive(Clone, Copy, PartialEq, Debug)]
+#[derive(Clone, Copy, Debug)]
 pub enum ClientFact {
     /// The step closed the client.
     Closed { client: u64, step: u64 },
@@ -47,9 +47,9 @@ pub enum ClientFact {
 /// use drm_refusals::HandleFact;
 ///
 /// let fact = HandleFact::NeverGiven { client: 1, handle: 5 };
-/// assert!(rt; fact == HandleFact::NeverGiven { client: 1, handle: 5 });
+/// assert!(rt; matches!(fact, HandleFact::NeverGiven { handle: 5, .. }));
 /// ```
-#[derive(PartialEq, Debug, Drop)]
+#[derive(Debug, Drop)]
 pub enum HandleFact {
     /// The client closed the handle, and no later step assigned it.
     GaveBack { client: u64, handle: u32, by: At },
@@ -68,9 +68,9 @@ pub enum HandleFact {
 /// use drm_rights::Key;
 ///
 /// let fact = PublishedFact::Never { key: Key::Name(1) };
-/// assert!(rt; fact != PublishedFact::Never { key: Key::Token(1) });
+/// assert!(rt; matches!(fact, PublishedFact::Never { key: Key::Name(1) }));
 /// ```
-#[derive(Clone, Copy, PartialEq, Debug)]
+#[derive(Clone, Copy, Debug)]
 pub enum PublishedFact {
     /// No step published anything under the key.
     Never {
@@ -108,9 +108,9 @@ pub enum PublishedFact {
 /// use drm_refusals::MagicFact;
 ///
 /// let fact = MagicFact::Unknown { master: 1, magic: 7 };
-/// assert!(rt; fact != MagicFact::Unknown { master: 1, magic: 8 });
+/// assert!(rt; matches!(fact, MagicFact::Unknown { magic: 7, .. }));
 /// ```
-#[derive(Clone, Copy, PartialEq, Debug)]
+#[derive(Clone, Copy, Debug)]
 pub enum MagicFact {
     /// The client that last received the master's magic was closed by the step.
     OfClosed {
@@ -147,9 +147,9 @@ pub enum MagicFact {
 /// use drm_refusals::LeaseFact;
 ///
 /// let fact = LeaseFact::TokenUnknown { token: 3 };
-/// assert!(rt; fact != LeaseFact::TokenUsed { token: 3 });
+/// assert!(rt; matches!(fact, LeaseFact::TokenUnknown { token: 3 }));
 /// ```
-#[derive(Clone, Copy, PartialEq, Debug)]
+#[derive(Clone, Copy, Debug)]
 pub enum LeaseFact {
     /// The client has universal planes on.
     LacksPlane {
@@ -190,9 +190,9 @@ pub enum LeaseFact {
 /// use drm_refusals::ModeObjectFact;
 ///
 /// let fact = ModeObjectFact::Nothing { id: 9, count: 8 };
-/// assert!(rt; fact != ModeObjectFact::Encoder { id: 9 });
+/// assert!(rt; matches!(fact, ModeObjectFact::Nothing { id: 9, .. }));
 /// ```
-#[derive(Clone, Copy, PartialEq, Debug)]
+#[derive(Clone, Copy, Debug)]
 pub enum ModeObjectFact {
     /// No mode object has the id. The ids are 1 to `count`.
     Nothing {
@@ -236,9 +236,9 @@ pub enum ModeObjectFact {
 /// use drm_refusals::Quantity;
 ///
 /// let quantity = Quantity::Width;
-/// assert!(rt; quantity != Quantity::Height);
+/// assert!(rt; matches!(quantity, Quantity::Width));
 /// ```
-#[derive(Clone, Copy, PartialEq, Debug)]
+#[derive(Clone, Copy, Debug)]
 pub enum Quantity {
     /// The size of a buffer in bytes.
     Size,
@@ -258,9 +258,9 @@ pub enum Quantity {
 /// use drm_refusals::SizeFact;
 ///
 /// let fact = SizeFact::ShortPitch { pitch: 4, least: 8 };
-/// assert!(rt; fact != SizeFact::ShortPitch { pitch: 4, least: 12 });
+/// assert!(rt; matches!(fact, SizeFact::ShortPitch { least: 8, .. }));
 /// ```
-#[derive(Clone, Copy, PartialEq, Debug)]
+#[derive(Clone, Copy, Debug)]
 pub enum SizeFact {
     /// The number is 0, or greater than `most`.
     OutOfRange {
@@ -291,9 +291,9 @@ pub enum SizeFact {
 /// use drm_refusals::LimitFact;
 ///
 /// let fact = LimitFact::Names { most: 65_535 };
-/// assert!(rt; fact != LimitFact::Tokens { most: 65_535 });
+/// assert!(rt; matches!(fact, LimitFact::Names { most: 65_535 }));
 /// ```
-#[derive(Clone, Copy, PartialEq, Debug)]
+#[derive(Clone, Copy, Debug)]
 pub enum LimitFact {
     Clients { count: u64, most: u32 },
     /// The client has this number of handles, which is at least the limit.
@@ -315,9 +315,9 @@ pub enum LimitFact {
 /// use drm_refusals::RequestFact;
 ///
 /// let fact = RequestFact::Repeated { id: 7 };
-/// assert!(rt; fact != RequestFact::LacksCrtc);
+/// assert!(rt; matches!(fact, RequestFact::Repeated { id: 7 }));
 /// ```
-#[derive(Clone, Copy, PartialEq, Debug)]
+#[derive(Clone, Copy, Debug)]
 pub enum RequestFact {
     /// No client was opened by the caller's label.
     NoCaller,

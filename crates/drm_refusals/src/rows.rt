@@ -24,7 +24,7 @@ use serde::Serialize;
 /// };
 /// assert!(rt; row.label == Some('a'));
 /// ```
-#[derive(PartialEq, Debug, Drop)]
+#[derive(Debug, Drop)]
 pub struct AnswerRow {
     /// The line's number, from 1.
     pub line: u64,
@@ -45,7 +45,7 @@ pub struct AnswerRow {
 }
 
 /// An `AnswerRow` with a sentence for each fact (own).
-#[derive(PartialEq, Debug, Drop, Serialize)]
+#[derive(Debug, Drop, Serialize)]
 pub struct WrittenAnswer {
     /// The line's number, from 1.
     pub line: u64,

@@ -1,6 +1,6 @@
 //! Facts as sentences.
 
-use drm_explanations::{At, Explanation, Labels, Name, Subject, line_about};
+use drm_explanations::{At, Explanation, Labels, Subject, Value, line_about, put_form};
 use drm_modes::{Kind, Topology};
 use drm_refusals::{
     ClientFact, Fact, HandleFact, LeaseFact, LimitFact, MagicFact, ModeObjectFact, PublishedFact,
@@ -13,144 +13,112 @@ use std::alloc::{AllocError, Global};
 const MOST_HANDLES: usize = 16;
 
 /// The values that sentences are written from: the explanation, the device, and the clients of the labels.
-#[derive(Clone, Copy)]
+#[derive(Drop)]
 pub(crate) struct Page<'a> {
     pub(crate) explanation: &'a Explanation,
     pub(crate) topology: &'a Topology,
     pub(crate) labels: &'a Labels,
 }
 
-impl Page<'_> {
-    fn name(&self, client: u64) -> Name {
-        Name::of(self.labels, client)
-    }
-}
-
-fn put_client(page: Page<'_>, fact: ClientFact, text: &mut String) -> Result<(), AllocError> {
-    match fact {
-        ClientFact::Closed { client, step } => {
-            let name = page.name(client);
-            write!(text, "{name} is not open: it closed at step {step}")
-        }
-        ClientFact::NeverOpened { client } => {
-            let name = page.name(client);
-            write!(text, "{name} is not open: no step opened it")
-        }
-    }
-}
-
 /// Writes the first of the handles that a client holds.
 fn put_held(
-    page: Page<'_>,
+    labels: &Labels,
     client: u64,
     held: &[Held],
     text: &mut String,
 ) -> Result<(), AllocError> {
-    let name = page.name(client);
-    let count = held.len();
-    if count == 0 {
-        return write!(text, "{name} holds no handle");
+    let name = Value::Client(client);
+    let form = match held.len() {
+        0 => return put_form(labels, "{} holds no handle", &[name], text),
+        1 => "{} holds {} own handle: ",
+        _ => "{} holds {} own handles: ",
+    };
+    put_form(
+        labels,
+        form,
+        &[name, Value::Number(held.len() as u64)],
+        text,
+    )?;
+    let mut between = "";
+    for one in held.iter().take(MOST_HANDLES) {
+        put_form(
+            labels,
+            "{}{}",
+            &[Value::Word(between), Value::Number(one.handle)],
+            text,
+        )?;
+        between = ", ";
     }
-    let noun = if count == 1 { "handle" } else { "handles" };
-    write!(text, "{name} holds {count} own {noun}: ")?;
-    for (place, one) in held.iter().enumerate() {
-        if place == MOST_HANDLES {
-            return text.push_str(", ..");
-        }
-        let between = if place == 0 { "" } else { ", " };
-        let handle = one.handle;
-        write!(text, "{between}{handle}")?;
+    if held.len() > MOST_HANDLES {
+        text.push_str(", ..")?;
     }
     Ok(())
 }
 
-fn put_handle(page: Page<'_>, fact: &HandleFact, text: &mut String) -> Result<(), AllocError> {
+fn put_handle(labels: &Labels, fact: &HandleFact, text: &mut String) -> Result<(), AllocError> {
     match fact {
         HandleFact::GaveBack { client, handle, by } => {
-            let name = page.name(*client);
             let At { step, call, .. } = *by;
-            write!(
+            let (client, handle) = (Value::Client(*client), Value::Id(*handle));
+            put_form(
+                labels,
+                "{} does not hold handle {}: it closed it at step {} ({})",
+                &[client, handle, Value::Number(step), Value::Word(call)],
                 text,
-                "{name} does not hold handle {handle}: it closed it at step {step} ({call})"
             )
         }
-        HandleFact::NeverGiven { client, handle } => {
-            let name = page.name(*client);
-            write!(
-                text,
-                "{name} does not hold handle {handle}: no step assigned it"
-            )
-        }
-        HandleFact::Holds { client, held } => put_held(page, *client, held, text),
-    }
-}
-
-/// Writes that nothing was published under a key.
-fn put_never(key: Key, text: &mut String) -> Result<(), AllocError> {
-    match key {
-        Key::Name(name) => write!(text, "no buffer has name {name}: no step allocated it"),
-        Key::Token(token) => write!(text, "token {token} is not open: no step allocated it"),
-        Key::Framebuffer(framebuffer) => write!(
+        HandleFact::NeverGiven { client, handle } => put_form(
+            labels,
+            "{} does not hold handle {}: no step assigned it",
+            &[Value::Client(*client), Value::Id(*handle)],
             text,
-            "framebuffer {framebuffer} does not exist: no step added it"
         ),
+        HandleFact::Holds { client, held } => put_held(labels, *client, held, text),
     }
 }
 
-/// Writes the client that published under a key.
-fn put_publisher(
-    page: Page<'_>,
-    key: Key,
-    client: u64,
-    step: u64,
+/// The forms of the sentences about a key, each with the number of the key first.
+#[derive(Drop)]
+struct KeyForms {
+    number: Value,
+    never: &'static str,
+    published: &'static str,
+    withdrawn: &'static str,
+}
+
+fn key_forms(key: Key) -> KeyForms {
+    match key {
+        Key::Name(name) => KeyForms {
+            number: Value::Number(name),
+            never: "no buffer has name {}: no step allocated it",
+            published: "name {} was allocated by {} at step {}",
+            withdrawn: "no buffer has name {}: {} allocated it at step {}, and it was removed at step {} ({} by {})",
+        },
+        Key::Token(token) => KeyForms {
+            number: Value::Number(token),
+            never: "token {} is not open: no step allocated it",
+            published: "token {} belongs to {}, which exported it at step {}",
+            withdrawn: "token {} is not open: {} exported it at step {}, and it was closed at step {} ({} by {})",
+        },
+        Key::Framebuffer(framebuffer) => KeyForms {
+            number: Value::Number(framebuffer),
+            never: "framebuffer {} does not exist: no step added it",
+            published: "framebuffer {} belongs to {}, which added it at step {}",
+            withdrawn: "framebuffer {} does not exist: {} added it at step {}, and it was removed at step {} ({} by {})",
+        },
+    }
+}
+
+fn put_published(
+    labels: &Labels,
+    fact: PublishedFact,
     text: &mut String,
 ) -> Result<(), AllocError> {
-    let by = page.name(client);
-    match key {
-        Key::Name(name) => write!(text, "name {name} was allocated by {by} at step {step}"),
-        Key::Token(token) => write!(
-            text,
-            "token {token} belongs to {by}, which exported it at step {step}"
-        ),
-        Key::Framebuffer(framebuffer) => write!(
-            text,
-            "framebuffer {framebuffer} belongs to {by}, which added it at step {step}"
-        ),
-    }
-}
-
-/// Writes the client that published under a key, and the step that withdrew that.
-fn put_withdrawn(
-    page: Page<'_>,
-    key: Key,
-    client: u64,
-    step: u64,
-    withdrawn: At,
-    text: &mut String,
-) -> Result<(), AllocError> {
-    let by = page.name(client);
-    let last = withdrawn.step;
-    let call = withdrawn.call;
-    let other = page.name(withdrawn.client);
-    match key {
-        Key::Name(name) => write!(
-            text,
-            "no buffer has name {name}: {by} allocated it at step {step}, and it was removed at step {last} ({call} by {other})"
-        ),
-        Key::Token(token) => write!(
-            text,
-            "token {token} is not open: {by} exported it at step {step}, and it was closed at step {last} ({call} by {other})"
-        ),
-        Key::Framebuffer(framebuffer) => write!(
-            text,
-            "framebuffer {framebuffer} does not exist: {by} added it at step {step}, and it was removed at step {last} ({call} by {other})"
-        ),
-    }
-}
-
-fn put_published(page: Page<'_>, fact: PublishedFact, text: &mut String) -> Result<(), AllocError> {
     match fact {
-        PublishedFact::Never { key } => put_never(key, text),
+        PublishedFact::Never { key } => {
+            let KeyForms { number, never, .. } = key_forms(key);
+            put_form(labels, never, &[number], text)
+        }
         PublishedFact::Named {
             name,
             buffer,
@@ -158,180 +126,230 @@ fn put_published(page: Page<'_>, fact: PublishedFact, text: &mut String) -> Resu
             step,
             last,
         } => {
-            let by = page.name(client);
-            write!(
+            let (client, step) = (Value::Client(client), Value::Number(step));
+            put_form(
+                labels,
+                "no buffer has name {}: {} named buffer {} at step {}, and its last handle was closed",
+                &[Value::Id(name), client, Value::Number(buffer), step],
                 text,
-                "no buffer has name {name}: {by} named buffer {buffer} at step {step}, and its last handle was closed"
             )?;
             let Some(At { step, client, call }) = last else {
                 return Ok(());
             };
-            let by = page.name(client);
-            write!(text, " at step {step} ({call} by {by})")
+            let values = [
+                Value::Number(step),
+                Value::Word(call),
+                Value::Client(client),
+            ];
+            put_form(labels, " at step {} ({} by {})", &values, text)
         }
         PublishedFact::Published { key, client, step } => {
-            put_publisher(page, key, client, step, text)
+            let KeyForms {
+                number,
+                published,
+                ..
+            } = key_forms(key);
+            let values = [number, Value::Client(client), Value::Number(step)];
+            put_form(labels, published, &values, text)
         }
         PublishedFact::Withdrawn {
             key,
             client,
             step,
             by,
-        } => put_withdrawn(page, key, client, step, by, text),
+        } => {
+            let KeyForms {
+                number,
+                withdrawn,
+                ..
+            } = key_forms(key);
+            let (client, step) = (Value::Client(client), Value::Number(step));
+            let (last, call) = (Value::Number(by.step), Value::Word(by.call));
+            let values = [number, client, step, last, call, Value::Client(by.client)];
+            put_form(labels, withdrawn, &values, text)
+        }
     }
 }
 
-fn put_magic(page: Page<'_>, fact: MagicFact, text: &mut String) -> Result<(), AllocError> {
+fn put_magic(labels: &Labels, fact: MagicFact, text: &mut String) -> Result<(), AllocError> {
     match fact {
         MagicFact::OfClosed {
             magic,
             client,
             step,
             ..
-        } => {
-            let name = page.name(client);
-            write!(
-                text,
-                "magic {magic} ended when {name} closed at step {step}"
-            )
-        }
+        } => put_form(
+            labels,
+            "magic {} ended when {} closed at step {}",
+            &[Value::Id(magic), Value::Client(client), Value::Number(step)],
+            text,
+        ),
         MagicFact::Spent {
             magic,
             client,
             by,
             step,
-        } => {
-            let name = page.name(client);
-            let by = page.name(by);
-            write!(
-                text,
-                "magic {magic} belongs to {name}, and {by} spent it at step {step} (auth_magic)"
-            )
-        }
-        MagicFact::Lost { magic, client, .. } => {
-            let name = page.name(client);
-            write!(
-                text,
-                "magic {magic} no longer belongs to {name}, or is spent"
-            )
-        }
-        MagicFact::Unknown { master, magic } => write!(
+        } => put_form(
+            labels,
+            "magic {} belongs to {}, and {} spent it at step {} (auth_magic)",
+            &[
+                Value::Id(magic),
+                Value::Client(client),
+                Value::Client(by),
+                Value::Number(step),
+            ],
             text,
-            "no client of master {master} received magic {magic} (get_magic)"
+        ),
+        MagicFact::Lost { magic, client, .. } => put_form(
+            labels,
+            "magic {} no longer belongs to {}, or is spent",
+            &[Value::Id(magic), Value::Client(client)],
+            text,
+        ),
+        MagicFact::Unknown { master, magic } => put_form(
+            labels,
+            "no client of master {} received magic {} (get_magic)",
+            &[Value::Number(master), Value::Id(magic)],
+            text,
         ),
     }
 }
 
-fn put_lease(page: Page<'_>, fact: LeaseFact, text: &mut String) -> Result<(), AllocError> {
+fn put_lease(labels: &Labels, fact: LeaseFact, text: &mut String) -> Result<(), AllocError> {
     match fact {
-        LeaseFact::LacksPlane { client } => {
-            let name = page.name(client);
-            write!(
-                text,
-                "no plane is among the ids, and {name} has universal planes on"
-            )
-        }
-        LeaseFact::LeasedOut { id, lease } => {
-            let lessee = lease.id;
-            write!(text, "mode object {id} is leased out to lessee {lessee}")
-        }
-        LeaseFact::NoLessee { lessee, .. } => write!(
+        LeaseFact::LacksPlane { client } => put_form(
+            labels,
+            "no plane is among the ids, and {} has universal planes on",
+            &[Value::Client(client)],
             text,
-            "there is no lessee {lessee}: no create_lease under the same owner returned that id"
+        ),
+        LeaseFact::LeasedOut { id, lease } => put_form(
+            labels,
+            "mode object {} is leased out to lessee {}",
+            &[Value::Id(id), Value::Number(lease.id)],
+            text,
+        ),
+        LeaseFact::NoLessee { lessee, .. } => put_form(
+            labels,
+            "there is no lessee {}: no create_lease under the same owner returned that id",
+            &[Value::Id(lessee)],
+            text,
         ),
         LeaseFact::OtherLessor {
             client,
             lessee,
             lessor,
             master,
-        } => {
-            let name = page.name(client);
-            write!(
-                text,
-                "the lessor of lessee {lessee} is master {lessor}, and the master of {name} is {master}"
-            )
-        }
-        LeaseFact::TokenUsed { token } => write!(
+        } => put_form(
+            labels,
+            "the lessor of lessee {} is master {}, and the master of {} is {}",
+            &[
+                Value::Id(lessee),
+                Value::Number(lessor),
+                Value::Client(client),
+                Value::Number(master),
+            ],
             text,
-            "lease token {token} is not open: it is spent, or its lease has ended"
         ),
-        LeaseFact::TokenUnknown { token } => write!(
+        LeaseFact::TokenUsed { token } => put_form(
+            labels,
+            "lease token {} is not open: it is spent, or its lease has ended",
+            &[Value::Id(token)],
             text,
-            "lease token {token} is not open: no create_lease returned it"
+        ),
+        LeaseFact::TokenUnknown { token } => put_form(
+            labels,
+            "lease token {} is not open: no create_lease returned it",
+            &[Value::Id(token)],
+            text,
         ),
     }
 }
 
 /// Returns the word for a kind, with its article.
-fn kind_words(kind: Kind) -> &'static str {
-    match kind {
+fn kind_words(kind: Kind) -> Value {
+    Value::Word(match kind {
         Kind::Crtc => "a CRTC",
         Kind::Plane => "a plane",
         Kind::Encoder => "an encoder",
         Kind::Connector => "a connector",
-    }
+    })
 }
 
 fn put_mode_object(
-    page: Page<'_>,
+    labels: &Labels,
     fact: ModeObjectFact,
     text: &mut String,
 ) -> Result<(), AllocError> {
     match fact {
-        ModeObjectFact::Nothing { id, count } => write!(
+        ModeObjectFact::Nothing { id, count } => put_form(
+            labels,
+            "there is no mode object {}: the ids are 1 to {}",
+            &[Value::Id(id), Value::Id(count)],
             text,
-            "there is no mode object {id}: the ids are 1 to {count}"
         ),
         ModeObjectFact::OfKind { id, kind, wanted } => {
-            let is = kind_words(kind);
-            let wants = kind_words(wanted);
-            write!(text, "mode object {id} is {is}, and not {wants}")
+            let values = [Value::Id(id), kind_words(kind), kind_words(wanted)];
+            put_form(labels, "mode object {} is {}, and not {}", &values, text)
         }
-        ModeObjectFact::Encoder { id } => write!(text, "mode object {id} is an encoder"),
-        ModeObjectFact::NotControlled { client, id, kind } => {
-            let name = page.name(client);
-            let is = kind_words(kind);
-            write!(
+        ModeObjectFact::Encoder { id } => {
+            put_form(
+                labels,
+                "mode object {} is an encoder",
+                &[Value::Id(id)],
                 text,
-                "{name} does not see mode object {id}, {is}: its master's lease does not include it"
             )
         }
+        ModeObjectFact::NotControlled { client, id, kind } => put_form(
+            labels,
+            "{} does not see mode object {}, {}: its master's lease does not include it",
+            &[Value::Client(client), Value::Id(id), kind_words(kind)],
+            text,
+        ),
         ModeObjectFact::Hidden {
             client,
             plane,
             crtc,
-        } => {
-            let name = page.name(client);
-            write!(
-                text,
-                "{name} does not see plane {plane}: it is the primary or the cursor plane of CRTC {crtc}"
-            )
-        }
+        } => put_form(
+            labels,
+            "{} does not see plane {}: it is the primary or the cursor plane of CRTC {}",
+            &[Value::Client(client), Value::Id(plane), Value::Id(crtc)],
+            text,
+        ),
         ModeObjectFact::EncoderOf {
             crtc,
             connector,
             encoder,
-        } => write!(
+        } => put_form(
+            labels,
+            "CRTC {} is not a possible CRTC of encoder {}, which is that of connector {}",
+            &[Value::Id(crtc), Value::Id(encoder), Value::Id(connector)],
             text,
-            "CRTC {crtc} is not a possible CRTC of encoder {encoder}, which is that of connector {connector}"
         ),
     }
 }
 
-fn put_size(fact: SizeFact, text: &mut String) -> Result<(), AllocError> {
+fn put_size(labels: &Labels, fact: SizeFact, text: &mut String) -> Result<(), AllocError> {
     match fact {
-        SizeFact::OutOfRange { what, number, most } => match what {
-            Quantity::Size => write!(text, "the size is {number} bytes, and not 1 to {most}"),
-            Quantity::Width => write!(text, "the width is {number}, and not 1 to {most}"),
-            Quantity::Height => write!(text, "the height is {number}, and not 1 to {most}"),
-            Quantity::Bits => write!(
+        SizeFact::OutOfRange { what, number, most } => {
+            let form = match what {
+                Quantity::Size => "the size is {} bytes, and not 1 to {}",
+                Quantity::Width => "the width is {}, and not 1 to {}",
+                Quantity::Height => "the height is {}, and not 1 to {}",
+                Quantity::Bits => "the number of bits per pixel is {}, and not 1 to {}",
+            };
+            put_form(
+                labels,
+                form,
+                &[Value::Number(number), Value::Number(most)],
                 text,
-                "the number of bits per pixel is {number}, and not 1 to {most}"
-            ),
-        },
-        SizeFact::ShortPitch { pitch, least } => write!(
+            )
+        }
+        SizeFact::ShortPitch { pitch, least } => put_form(
+            labels,
+            "the pitch is {} bytes, and the pixels of a line take {}",
+            &[Value::Id(pitch), Value::Number(least)],
             text,
-            "the pitch is {pitch} bytes, and the pixels of a line take {least}"
         ),
         SizeFact::ShortBuffer {
             height,
@@ -339,131 +357,161 @@ fn put_size(fact: SizeFact, text: &mut String) -> Result<(), AllocError> {
             needed,
             handle,
             size,
-        } => write!(
-            text,
-            "{height} lines of {pitch} bytes are {needed}, and the buffer of handle {handle} has {size}"
-        ),
+        } => {
+            let (needed, size) = (Value::Number(needed), Value::Number(size));
+            put_form(
+                labels,
+                "{} lines of {} bytes are {}, and the buffer of handle {} has {}",
+                &[
+                    Value::Id(height),
+                    Value::Id(pitch),
+                    needed,
+                    Value::Id(handle),
+                    size,
+                ],
+                text,
+            )
+        }
     }
 }
 
-fn put_limit(page: Page<'_>, fact: LimitFact, text: &mut String) -> Result<(), AllocError> {
-    match fact {
+fn put_limit(labels: &Labels, fact: LimitFact, text: &mut String) -> Result<(), AllocError> {
+    let (form, most) = match fact {
         LimitFact::Clients { count, most } => {
-            write!(text, "{count} clients are open, and the limit is {most}")
+            let form = "{} clients are open, and the limit is {}";
+            return put_form(labels, form, &[Value::Number(count), Value::Id(most)], text);
         }
         LimitFact::Handles {
             client,
             count,
             most,
         } => {
-            let name = page.name(client);
-            write!(
+            let values = [Value::Client(client), Value::Number(count), Value::Id(most)];
+            return put_form(
+                labels,
+                "{} holds {} handles, and the limit is {}",
+                &values,
                 text,
-                "{name} holds {count} handles, and the limit is {most}"
-            )
+            );
         }
-        LimitFact::Objects { most } => write!(
-            text,
-            "{most} buffers exist, which is the limit; those that only a token or a framebuffer keeps count too"
-        ),
-        LimitFact::Names { most } => write!(text, "all names are in use, 1 to {most}"),
-        LimitFact::Tokens { most } => write!(text, "all PRIME tokens are open, 1 to {most}"),
-        LimitFact::Framebuffers { most } => {
-            write!(text, "{most} framebuffers exist, which is the limit")
+        LimitFact::Leases { lessees, tokens } => {
+            let form =
+                "all lessee ids of the owner are in use, 1 to {}, or all lease tokens are open, 1 to {}";
+            return put_form(labels, form, &[Value::Id(lessees), Value::Id(tokens)], text);
         }
-        LimitFact::Leases { lessees, tokens } => write!(
-            text,
-            "all lessee ids of the owner are in use, 1 to {lessees}, or all lease tokens are open, 1 to {tokens}"
-        ),
         LimitFact::Journal {
             used,
             most,
             clients,
-        } => write!(
-            text,
-            "the journal has {used} steps of {most}, and each of {clients} open clients reserves a step for its closing"
+        } => {
+            let form =
+                "the journal has {} steps of {}, and each of {} open clients reserves a step for its closing";
+            let values = [Value::Number(used), Value::Id(most), Value::Number(clients)];
+            return put_form(labels, form, &values, text);
+        }
+        LimitFact::Objects { most } => (
+            "{} buffers exist, which is the limit; those that only a token or a framebuffer keeps count too",
+            most,
         ),
-    }
+        LimitFact::Names { most } => ("all names are in use, 1 to {}", most),
+        LimitFact::Tokens { most } => ("all PRIME tokens are open, 1 to {}", most),
+        LimitFact::Framebuffers { most } => ("{} framebuffers exist, which is the limit", most),
+    };
+    put_form(labels, form, &[Value::Id(most)], text)
 }
 
-fn put_request(fact: RequestFact, text: &mut String) -> Result<(), AllocError> {
-    match fact {
-        RequestFact::NoCaller => text.push_str(
-            "no step opened a client with the label of the line",
-        ),
+fn put_request(labels: &Labels, fact: RequestFact, text: &mut String) -> Result<(), AllocError> {
+    let (form, values) = match fact {
+        RequestFact::NoCaller => {
+            return text.push_str("no step opened a client with the label of the line");
+        }
+        RequestFact::LacksCrtc => return text.push_str("no CRTC is among the ids"),
+        RequestFact::LacksConnector => return text.push_str("no connector is among the ids"),
+        RequestFact::NoCall { number } => {
+            let number = Value::Id(u32::from(number));
+            return put_form(labels, "no call has number {}", &[number], text);
+        }
+        RequestFact::Repeated { id } => {
+            return put_form(labels, "id {} occurs twice", &[Value::Id(id)], text);
+        }
+        RequestFact::NoCapability { capability } => {
+            let form = "capability {} cannot be read: only 1 and 5 can";
+            return put_form(labels, form, &[Value::Number(capability)], text);
+        }
         RequestFact::OtherFields { number, kind } => {
             let word = str::from_utf8(kind.word()).unwrap_or("");
-            write!(text, "number {number} is {word}, which has other fields")
+            let values = [Value::Id(u32::from(number)), Value::Word(word)];
+            ("number {} is {}, which has other fields", values)
         }
-        RequestFact::NoCall { number } => { write!(text, "no call has number {number}") }
-        RequestFact::Repeated { id } => write!(text, "id {id} occurs twice"),
-        RequestFact::LacksCrtc => text.push_str("no CRTC is among the ids"),
-        RequestFact::LacksConnector => text.push_str("no connector is among the ids"),
         RequestFact::HalfRoute {
             framebuffer,
             connector,
-        } => write!(
-            text,
-            "the framebuffer is {framebuffer} and the connector {connector}: exactly one of them is 0"
+        } => (
+            "the framebuffer is {} and the connector {}: exactly one of them is 0",
+            [Value::Id(framebuffer), Value::Id(connector)],
         ),
-        RequestFact::PlaneRoute { crtc, plane } => {
-            write!(text, "CRTC {crtc} is not a possible CRTC of plane {plane}")
-        }
-        RequestFact::NoCapability { capability } => write!(
-            text,
-            "capability {capability} cannot be read: only 1 and 5 can"
+        RequestFact::PlaneRoute { crtc, plane } => (
+            "CRTC {} is not a possible CRTC of plane {}",
+            [Value::Id(crtc), Value::Id(plane)],
         ),
-        RequestFact::NoValue { capability, value } => write!(
-            text,
-            "capability {capability} cannot be set to {value}: only capability 2 can be set, to 0 or 1"
+        RequestFact::NoValue { capability, value } => (
+            "capability {} cannot be set to {}: only capability 2 can be set, to 0 or 1",
+            [Value::Number(capability), Value::Number(value)],
         ),
-    }
+    };
+    put_form(labels, form, &values, text)
 }
 
-/// Writes the line of the explanation about a subject, without its line end, or nothing if it has none.
-fn put_told(
-    alloc: Global,
-    page: Page<'_>,
-    subject: Subject,
-    text: &mut String,
-) -> Result<(), AllocError> {
-    line_about(
-        alloc,
-        page.explanation,
-        page.topology,
-        page.labels,
-        subject,
-        text,
-    )?;
-    let _ = text.pop();
-    Ok(())
-}
-
-/// Writes the sentence of a fact. If memory is refused, it writes a front of the sentence.
+/// Writes the sentence of a fact, or the line of the explanation about a subject without its line end. It writes nothing
+/// about a subject without a line. If memory is refused, it writes a front of the sentence.
 fn put_fact(
     alloc: Global,
-    page: Page<'_>,
+    page: &Page<'_>,
     fact: &Fact,
     text: &mut String,
 ) -> Result<(), AllocError> {
+    let labels = page.labels;
     match fact {
-        Fact::Client(fact) => put_client(page, *fact, text),
-        Fact::Handle(fact) => put_handle(page, fact, text),
-        Fact::Published(fact) => put_published(page, *fact, text),
-        Fact::Magic(fact) => put_magic(page, *fact, text),
-        Fact::Lease(fact) => put_lease(page, *fact, text),
-        Fact::ModeObject(fact) => put_mode_object(page, *fact, text),
-        Fact::Size(fact) => put_size(*fact, text),
-        Fact::Limit(fact) => put_limit(page, *fact, text),
-        Fact::Request(fact) => put_request(*fact, text),
-        Fact::Told(subject) => put_told(alloc, page, *subject, text),
+        Fact::Client(ClientFact::Closed { client, step }) => {
+            let values = [Value::Client(*client), Value::Number(*step)];
+            put_form(
+                labels,
+                "{} is not open: it closed at step {}",
+                &values,
+                text,
+            )
+        }
+        Fact::Client(ClientFact::NeverOpened { client }) => {
+            let form = "{} is not open: no step opened it";
+            put_form(labels, form, &[Value::Client(*client)], text)
+        }
+        Fact::Handle(fact) => put_handle(labels, fact, text),
+        Fact::Published(fact) => put_published(labels, *fact, text),
+        Fact::Magic(fact) => put_magic(labels, *fact, text),
+        Fact::Lease(fact) => put_lease(labels, *fact, text),
+        Fact::ModeObject(fact) => put_mode_object(labels, *fact, text),
+        Fact::Size(fact) => put_size(labels, *fact, text),
+        Fact::Limit(fact) => put_limit(labels, *fact, text),
+        Fact::Request(fact) => put_request(labels, *fact, text),
+        Fact::Told(subject) => {
+            line_about(
+                alloc,
+                page.explanation,
+                page.topology,
+                labels,
+                *subject,
+                text,
+            )?;
+            let _ = text.pop();
+            Ok(())
+        }
     }
 }
 
 /// Returns the sentence of each fact, in order. A subject without a line in the explanation has no sentence.
 pub(crate) fn sentences_of(
     alloc: Global,
-    page: Page<'_>,
+    page: &Page<'_>,
     facts: &[Fact],
 ) -> Result<Vec<String>, AllocError> {
     let mut sentences = Vec::new(alloc);

@@ -6,21 +6,11 @@ ghost use Rattle.std.specs.String.{string_bytes};
 ghost use Rattle.drm_sentences.specs.Texts as texts;
 
 use crate::sentences::{Page, sentences_of};
-use drm_explanations::{At, Labels, Name, explain};
+use drm_explanations::{At, Labels, Value, explain, put_form};
 use drm_modes::Topology;
 use drm_refusals::{AnswerRow, WrittenAnswer};
-use drm_rights::{Ledger, Step};
-use drm_table::Event;
+use drm_rights::Ledger;
 use std::alloc::{AllocError, Global};
-
-/// Returns the client that made a step, or 0 for an opening.
-fn caller_of(step: &Step) -> u64 {
-    match &step.event {
-        Event::Open(_) => 0,
-        Event::Ask(client, _) => u64::from(*client),
-        Event::Close(client) => u64::from(*client),
-    }
-}
 
 /// Returns the row with a sentence for each of its facts (own). The ledger, the topology and the labels must be those
 /// of the row. Allocates the sentences.
@@ -70,9 +60,12 @@ pub fn write_answer(
     ensures rule { IfOk result (λ written. written.rule ≡ row.rule) }
     ensures condition { IfOk result (λ written. written.passes_if ≡ row.passes_if) }
 {
-    let only = ledger.steps().last().map_or(0, |step| caller_of(step));
+    let only = match row.asked {
+        Some(asked) => asked.client,
+        None => 0,
+    };
     let explanation = explain(alloc, ledger, topology, labels, Some(only))?;
-    let page = Page {
+    let page = &Page {
         explanation: &explanation,
         topology,
         labels,
@@ -100,44 +93,33 @@ pub fn write_answer(
     })
 }
 
-/// Returns the word of a call, or the words for a call without a row.
-fn call_words(call: &'static str) -> &'static str {
-    if call.is_empty() {
-        "a call with an unknown number"
-    } else {
-        call
-    }
-}
-
-/// Writes the step of a line, with its call and its caller.
-fn asked_words(asked: At, labels: &Labels, text: &mut String) -> Result<(), AllocError> {
-    let At { step, client, call } = asked;
-    let call = call_words(call);
-    write!(text, " is step {step}, {call}")?;
-    if call == "open" {
-        return Ok(());
-    }
-    if client == 0 {
-        return text.push_str(" by a label that names no client");
-    }
-    let name = Name::of(labels, client);
-    write!(text, " by {name}")
-}
-
-/// Writes the first line: the step of the line, and its answer.
+/// Writes the first line: the step of the line with its call and its caller, and the answer.
 fn put_answer(row: &WrittenAnswer, labels: &Labels, text: &mut String) -> Result<(), AllocError> {
-    let line = row.line;
-    write!(text, "line {line}")?;
-    if let Some(asked) = row.asked {
-        asked_words(asked, labels, text)?;
+    put_form(labels, "line {}", &[Value::Number(row.line)], text)?;
+    if let Some(At { step, client, call }) = row.asked {
+        let form = match (call, client) {
+            ("open", _) => " is step {}, {}",
+            (_, 0) => " is step {}, {} by a label that names no client",
+            _ => " is step {}, {} by {}",
+        };
+        let words = if call.is_empty() {
+            "a call with an unknown number"
+        } else {
+            call
+        };
+        let values = [
+            Value::Number(step),
+            Value::Word(words),
+            Value::Client(client),
+        ];
+        put_form(labels, form, &values, text)?;
     }
-    let answer = row.answer.as_str();
-    let done = if row.is_carried_out {
-        ", which was carried out"
-    } else {
-        ""
-    };
-    writeln!(text, "{done}: {answer}")
+    if row.is_carried_out {
+        text.push_str(", which was carried out")?;
+    }
+    text.push_str(": ")?;
+    text.push_str(row.answer.as_str())?;
+    text.push_str("\n")
 }
 
 /// Writes a line for each sentence.

@@ -1,8 +1,8 @@
 //! The examples of `drm_explanations`, made by `tools/doc_examples` of its doc comments.
 
 use drm_explanations::{
-    At, Authenticated, AuthenticatedBy, DeviceRow, FrontRow, HandleRow, LeaseRow, LinkRow, Name,
-    Node, PublishedBy, PublishedRow, StandingRow, Subject, explain, lines_of,
+    At, Authenticated, AuthenticatedBy, DeviceRow, FrontRow, HandleRow, LeaseRow, LinkRow, Node,
+    PublishedBy, PublishedRow, StandingRow, Subject, Value, explain, lines_of, put_form,
 };
 use drm_modes::Topology;
 use drm_rights::{Ledger, Step};
@@ -11,6 +11,10 @@ use drm_table::{Answer, Event, Opening};
 #[test]
 fn part_1(rt: HostRuntime) {
     let alloc = rt.alloc();
+    let mut text = String::new(rt.alloc());
+    let values = [Value::Client(1), Value::Number(2)];
+    let put = put_form(&[0; 26], "{} closed at step {}", &values, &mut text);
+    assert!(rt; put.is_ok() && text.as_str() == "client 1 closed at step 2");
     let answer = Answer::Opened { client: 1 };
     let opened = Step {
         event: Event::Open(Opening::Render),
@@ -35,10 +39,7 @@ fn part_1(rt: HostRuntime) {
             .contains("a is client 1: a render client, opened at step 1")
     );
     let subject = Subject::Client(1);
-    assert!(rt; subject != Subject::Device);
-    let mut labels = [0; 26];
-    labels[0] = 1;
-    assert!(rt; Name::of(&labels, 1) != Name::of(&labels, 2));
+    assert!(rt; matches!(subject, Subject::Client(1)));
     let opened = At {
         step: 1,
         client: 1,
@@ -142,7 +143,7 @@ fn part_4(rt: HostRuntime) {
     let Some(row) = explanation.client(1) else {
         panic!(rt; "refused")
     };
-    assert!(rt; row.label == Some('a') && row.node == Node::Render);
+    assert!(rt; row.label == Some('a') && matches!(row.node, Node::Render));
     let opened = At {
         step: 1,
         client: 1,

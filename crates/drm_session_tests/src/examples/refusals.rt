@@ -8,52 +8,33 @@ use drm_rights::Key;
 
 #[test]
 fn part_1(rt: HostRuntime) {
+    let alloc = rt.alloc();
     let fact = Fact::Client(ClientFact::NeverOpened { client: 1 });
-    assert!(rt; fact == Fact::Client(ClientFact::NeverOpened { client: 1 }));
+    assert!(rt; matches!(fact, Fact::Client(ClientFact::NeverOpened { client: 1 })));
     let fact = HandleFact::NeverGiven {
         client: 1,
         handle: 5,
     };
-    assert!(rt;
-        fact == HandleFact::NeverGiven {
-            client: 1,
-            handle: 5
-        }
-    );
+    assert!(rt; matches!(fact, HandleFact::NeverGiven { handle: 5, .. }));
     let fact = PublishedFact::Never { key: Key::Name(1) };
-    assert!(rt; fact != PublishedFact::Never { key: Key::Token(1) });
+    assert!(rt; matches!(fact, PublishedFact::Never { key: Key::Name(1) }));
     let fact = MagicFact::Unknown {
         master: 1,
         magic: 7,
     };
-    assert!(rt;
-        fact != MagicFact::Unknown {
-            master: 1,
-            magic: 8
-        }
-    );
+    assert!(rt; matches!(fact, MagicFact::Unknown { magic: 7, .. }));
     let fact = LeaseFact::TokenUnknown { token: 3 };
-    assert!(rt; fact != LeaseFact::TokenUsed { token: 3 });
+    assert!(rt; matches!(fact, LeaseFact::TokenUnknown { token: 3 }));
     let fact = ModeObjectFact::Nothing { id: 9, count: 8 };
-    assert!(rt; fact != ModeObjectFact::Encoder { id: 9 });
+    assert!(rt; matches!(fact, ModeObjectFact::Nothing { id: 9, .. }));
     let quantity = Quantity::Width;
-    assert!(rt; quantity != Quantity::Height);
+    assert!(rt; matches!(quantity, Quantity::Width));
     let fact = SizeFact::ShortPitch { pitch: 4, least: 8 };
-    assert!(rt;
-        fact != SizeFact::ShortPitch {
-            pitch: 4,
-            least: 12
-        }
-    );
+    assert!(rt; matches!(fact, SizeFact::ShortPitch { least: 8, .. }));
     let fact = LimitFact::Names { most: 65_535 };
-    assert!(rt; fact != LimitFact::Tokens { most: 65_535 });
-}
-
-#[test]
-fn part_2(rt: HostRuntime) {
-    let alloc = rt.alloc();
+    assert!(rt; matches!(fact, LimitFact::Names { most: 65_535 }));
     let fact = RequestFact::Repeated { id: 7 };
-    assert!(rt; fact != RequestFact::LacksCrtc);
+    assert!(rt; matches!(fact, RequestFact::Repeated { id: 7 }));
     let row = AnswerRow {
         line: 1,
         asked: None,
