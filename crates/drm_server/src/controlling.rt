@@ -3,9 +3,8 @@
 use drm_connections::{OpenConnections, Role, wait_for};
 use drm_traffic::{MOST_BYTES, Plan, RuleFault, put_fault};
 use libc::net::{POLLHUP, POLLIN, SHUT_RDWR, poll, shutdown};
-use std::alloc::{AllocError, Global};
-use std::io;
-use std::io::{ErrorKind, Read, Write};
+use std::alloc::AllocError;
+use std::io::{Read, Write};
 use std::os::fd::AsRawFd;
 use std::os::unix::net::{UnixListener, UnixStream};
 use std::sync::Wait;
@@ -26,15 +25,7 @@ struct Lines<'a> {
     answers: Vec<u8>,
 }
 
-impl<'a> Lines<'a> {
-    fn new(alloc: Global, plan: &'a Plan) -> Result<Lines<'a>, AllocError> {
-        Ok(Lines {
-            plan,
-            line: Vec::with_capacity(alloc, MOST_BYTES)?,
-            answers: Vec::new(alloc),
-        })
-    }
-
+impl Lines<'_> {
     /// Takes the bytes of a piece, and answers the lines that they end. Returns whether more are taken: not after a line that is too
     /// long.
     fn take_all<R: Wait>(&mut self, rt: &R, piece: &[u8]) -> Result<bool, AllocError> {
@@ -53,19 +44,21 @@ impl<'a> Lines<'a> {
     }
 
     /// Reads a piece of a connection, and answers its lines. Returns whether more is read.
-    fn exchange<R: Wait>(&mut self, rt: &R, stream: &UnixStream) -> io::Result<bool> {
+    fn exchange<R: Wait>(&mut self, rt: &R, stream: &UnixStream) -> bool {
         let mut stream = stream;
         let mut piece = [0; PIECE];
-        let count = stream.read(&mut piece)?;
-        let Some(read) = piece.get(..count) else {
-            return Ok(false);
+        let Ok(count) = stream.read(&mut piece) else {
+            return false;
         };
+        let read = piece.get(..count).unwrap_or(&[]);
         let Ok(goes_on) = self.take_all(rt, read) else {
-            return Err(io::Error::from(ErrorKind::OutOfMemory));
+            return false;
         };
-        stream.write_all(&self.answers)?;
+        if count == 0 || stream.write_all(&self.answers).is_err() {
+            return false;
+        }
         self.answers.clear();
-        Ok(goes_on && count > 0)
+        goes_on
     }
 }
 
@@ -84,13 +77,18 @@ fn drain<R: Wait>(rt: &R, stream: &UnixStream) {
 /// Answers the control lines of a connection until it ends, or all connections were asked to end.
 fn answer<R: Wait>(rt: &R, open: &OpenConnections, plan: &Plan, place: usize, stream: UnixStream) {
     let _attendance = open.attend(rt, place, stream.as_raw_fd(), Role::Listener);
-    let Ok(mut lines) = Lines::new(open.alloc(), plan) else {
+    let Ok(line) = Vec::with_capacity(open.alloc(), MOST_BYTES) else {
         return;
     };
+    let answers = Vec::new(open.alloc());
+    let mut lines = Lines {
+        plan,
+        line,
+        answers,
+    };
     for _ in rt.forever() {
-        match lines.exchange(rt, &stream) {
-            Ok(true) => {}
-            _ => break,
+        if !lines.exchange(rt, &stream) {
+            break;
         }
     }
     shutdown(stream.as_raw_fd(), SHUT_RDWR);
@@ -98,12 +96,14 @@ fn answer<R: Wait>(rt: &R, open: &OpenConnections, plan: &Plan, place: usize, st
 }
 
 /// Waits for the next connection, or until the listener is shut.
-fn accept(listener: &UnixListener) -> io::Result<UnixStream> {
+fn accept(listener: &UnixListener) -> Option<UnixStream> {
     if wait_for(listener.as_raw_fd(), POLLIN, -1) & POLLHUP != 0 {
-        return Err(io::Error::from(ErrorKind::NotConnected));
+        return None;
     }
-    let (stream, _) = listener.accept()?;
-    Ok(stream)
+    match listener.accept() {
+        Ok((stream, _)) => Some(stream),
+        Err(_) => None,
+    }
 }
 
 /// Answers the control lines of one connection after the other, until all connections are asked to end.
@@ -120,8 +120,8 @@ pub(crate) fn control<R: Wait>(rt: &R, open: &OpenConnections, listener: UnixLis
             return;
         }
         match accepted {
-            Ok(stream) => answer(rt, open, plan, next, stream),
-            Err(_) => {
+            Some(stream) => answer(rt, open, plan, next, stream),
+            None => {
                 poll(&mut [], PAUSE);
             }
         }

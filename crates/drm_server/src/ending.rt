@@ -14,14 +14,6 @@ const INPUT: RawFd = 0;
 /// The most bytes of standard input in one read.
 const READ: usize = 256;
 
-fn awaiting(descriptor: RawFd) -> pollfd {
-    pollfd {
-        fd: descriptor,
-        events: POLLIN,
-        revents: 0,
-    }
-}
-
 /// Reads standard input, and returns whether it has ended.
 fn has_ended<R: Input>(rt: &R) -> bool {
     let mut bytes = [0; READ];
@@ -34,8 +26,22 @@ fn has_ended<R: Input>(rt: &R) -> bool {
 /// Waits until standard input ends, and then asks all connections to end. It also returns if the other end of `served`
 /// is closed.
 pub(crate) fn end_with_input<R: Input + Wait>(rt: &R, served: &UnixStream, open: &OpenConnections) {
+    let events = POLLIN;
+    let revents = 0;
     for _ in rt.forever() {
-        let mut asked = [awaiting(served.as_raw_fd()), awaiting(INPUT)];
+        let fd = served.as_raw_fd();
+        let mut asked = [
+            pollfd {
+                fd,
+                events,
+                revents,
+            },
+            pollfd {
+                fd: INPUT,
+                events,
+                revents,
+            },
+        ];
         poll(&mut asked, -1);
         let [served, input] = asked;
         if served.revents != 0 {

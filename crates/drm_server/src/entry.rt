@@ -3,23 +3,24 @@
 ghost use Rattle.std.specs.Prelude.{◌≡◌, true};
 ghost use Rattle.drm_table.specs.Limits.{are_in_range};
 
-use crate::command_line::{Asked, AskedRules, Serving, read_words};
+use crate::command_line::{
+    Serving, checking_of, explaining_of, has_sign, read_words, running_of, serving_of, shrinking_of,
+};
 use crate::listing::{list_audit, outcome_of_listing};
 use crate::planning::plan_of;
 use crate::serving::{Ended, fault_of, serve_device};
 use crate::standard::open_standard;
-use crate::watching::{TraceTarget, create_target, finish_journal, warn_of_left_out, writers_of};
+use crate::watching::{ServedFiles, create_files, finish_journal, warn_of_left_out, writers_of};
 use crate::words::words_of;
-use clap::Error;
 use clap::error::ErrorKind;
+use clap::{ArgMatches, Error};
 use drm_commands::{
-    Fault, FilesRead, JournalFile, Outcome, TopologyText, asked_device, asked_limits, check,
-    create_asked, explain_script, outcome_by, outcome_of, outcome_of_checks, outcome_of_fault,
-    read_asked, run, shrink, update,
+    Fault, Outcome, TopologyText, asked_device, asked_limits, check, explain_script, outcome_by,
+    outcome_of, outcome_of_checks, outcome_of_fault, read_asked, run, shrink, update,
 };
 use drm_device::Limits;
 use drm_frames::ToWrite;
-use drm_traffic::PROGRAM;
+use drm_traffic::{PROGRAM, Plan};
 use log::{Log, error};
 use std::alloc::Global;
 use std::io;
@@ -33,26 +34,19 @@ use std::thread::Threads;
 /// The most writes of a listing.
 const MOST_TURNS: u64 = 1_000_000;
 
-/// The files that are written while a device is served.
-#[derive(Drop)]
-struct Written<'a, F: Drop> {
-    journal: Option<JournalFile<'a, F>>,
-    trace: Option<TraceTarget<'a, F>>,
-}
-
 /// Writes what is missing in the journal of a device, if there is a file for it, and lists its rows on standard output.
 /// Then it logs a fault of the listeners.
 fn write_and_list<R: Print + Files + AllocGlobal + Log>(
     rt: &R,
     alloc: Global,
     topology: Option<&TopologyText<'_>>,
-    files: Written<'_, R::File>,
+    files: ServedFiles<'_, R::File>,
     limits: Limits,
     ended: &Ended,
 ) -> Result<Outcome, Fault>
     requires { are_in_range limits ≡ true }
 {
-    let Written { journal, trace } = files;
+    let ServedFiles { journal, trace } = files;
     let growth = ended.written.journal;
     let written = finish_journal(rt, alloc, journal, topology, limits, &ended.device, growth);
     warn_of_left_out(rt, trace.as_ref(), ended.written.left_out);
@@ -66,38 +60,43 @@ fn write_and_list<R: Print + Files + AllocGlobal + Log>(
     Ok(listed)
 }
 
-/// Serves an empty device, with these faults on purpose. The journal and the trace are written meanwhile, if requested. At the end it lists the rows on
-/// standard output, also after a fault of a listener.
+/// Serves an empty device of this topology and these limits. The journal and the trace are written meanwhile, if
+/// requested. At the end it lists the rows on standard output, also after a fault of a listener.
+fn serve_with<R: Input + Print + Files + Net + Env + AllocGlobal + Log + Wait + Threads + Sync>(
+    rt: &R,
+    alloc: Global,
+    serving: &Serving<'_>,
+    plan: Option<Plan>,
+    topology: Option<&TopologyText<'_>>,
+    limits: Limits,
+) -> Result<Outcome, Fault>
+where
+    R::File: AsRawFd,
+    requires { are_in_range limits ≡ true }
+{
+    let device = asked_device(rt, alloc, topology, limits)?;
+    let files = create_files(rt, serving)?;
+    let writers = writers_of(rt, alloc, topology, limits, &files)?;
+    let ended = serve_device(rt, alloc, device, serving, writers, plan)?;
+    write_and_list(rt, alloc, topology, files, limits, &ended)
+}
+
+/// Serves an empty device, as the options say.
 fn serve<R: Input + Print + Files + Net + Env + AllocGlobal + Log + Wait + Threads + Sync>(
     rt: &R,
     alloc: Global,
-    serving: Serving<'_>,
-    rules: &AskedRules<'_>,
+    matches: &ArgMatches<'_>,
 ) -> Result<Outcome, Fault>
 where
     R::File: AsRawFd,
 {
-    let limits = asked_limits(rt, serving.device.limits)?;
-    let plan = plan_of(rt, alloc, rules, serving.control)?;
-    let topology = read_asked(rt, serving.device)?;
-    let device = asked_device(rt, alloc, topology.as_ref(), limits)?;
-    let read = FilesRead {
-        topology: serving.device.topology,
-        script: None,
+    let Some(serving) = serving_of(matches) else {
+        return Err(Fault::CommandLine);
     };
-    let journal = create_asked(rt, serving.journal, read)?;
-    let trace = create_target(rt, &serving)?;
-    let writers = writers_of(
-        rt,
-        alloc,
-        topology.as_ref(),
-        limits,
-        journal.as_ref(),
-        trace.as_ref(),
-    )?;
-    let ended = serve_device(rt, alloc, device, serving, writers, plan)?;
-    let files = Written { journal, trace };
-    write_and_list(rt, alloc, topology.as_ref(), files, limits, &ended)
+    let limits = asked_limits(rt, serving.device.limits)?;
+    let plan = plan_of(rt, alloc, matches, serving.control)?;
+    let topology = read_asked(rt, serving.device)?;
+    serve_with(rt, alloc, &serving, plan, topology.as_ref(), limits)
 }
 
 /// Prints help on standard output, or a mistake of the command line on standard error.
@@ -115,32 +114,63 @@ fn stop_at<R: Print + Eprint>(rt: &R, error: &Error) -> Result<Outcome, Fault> {
     }
 }
 
-/// Executes the command.
+/// Checks files, or writes the received answers into them.
+fn check_or_update<R: Input + Print + Files + AllocGlobal + Log>(
+    rt: &R,
+    alloc: Global,
+    matches: &ArgMatches<'_>,
+) -> Result<Outcome, Fault> {
+    let Ok(checking) = checking_of(alloc, matches) else {
+        return Err(Fault::Memory);
+    };
+    if matches.get_flag("update") {
+        update(rt, alloc, &checking)?;
+        return Ok(outcome_by(None));
+    }
+    Ok(outcome_of_checks(&check(rt, alloc, &checking)?))
+}
+
+/// Executes the command with this name and these arguments.
+fn execute<R: Input + Print + Files + Net + Env + AllocGlobal + Log + Wait + Threads + Sync>(
+    rt: &R,
+    alloc: Global,
+    name: &str,
+    matches: &ArgMatches<'_>,
+) -> Result<Outcome, Fault>
+where
+    R::File: AsRawFd,
+{
+    match name {
+        "run" => Ok(outcome_of(&run(rt, alloc, running_of(matches))?)),
+        "check" => check_or_update(rt, alloc, matches),
+        "explain" => explain_script(rt, alloc, explaining_of(matches).ok_or(Fault::CommandLine)?),
+        "shrink" => {
+            shrink(rt, alloc, shrinking_of(matches).ok_or(Fault::CommandLine)?)?;
+            Ok(outcome_by(None))
+        }
+        _ => serve(rt, alloc, matches),
+    }
+}
+
+/// Reads the command line, and executes its command.
 fn carry_out_command<
     R: Input + Print + Eprint + Files + Net + Env + AllocGlobal + Log + Wait + Threads + Sync,
 >(rt: &R, alloc: Global, words: &[String]) -> Result<Outcome, Fault>
 where
     R::File: AsRawFd,
 {
-    match read_words(alloc, words) {
-        Ok(Some(Asked::Run(running))) => Ok(outcome_of(&run(rt, alloc, running)?)),
-        Ok(Some(Asked::Check(checking))) => Ok(outcome_of_checks(&check(rt, alloc, &checking)?)),
-        Ok(Some(Asked::Update(checking))) => {
-            update(rt, alloc, &checking)?;
-            Ok(outcome_by(None))
-        }
-        Ok(Some(Asked::Explain(explaining))) => explain_script(rt, alloc, explaining),
-        Ok(Some(Asked::Shrink(shrinking))) => {
-            shrink(rt, alloc, shrinking)?;
-            Ok(outcome_by(None))
-        }
-        Ok(Some(Asked::Serve(serving, rules))) => serve(rt, alloc, serving, &rules),
-        Ok(None) => {
-            error!(rt; target: PROGRAM, "a number has a sign");
-            Err(Fault::CommandLine)
-        }
-        Err(error) => stop_at(rt, &error),
+    let matches = match read_words(alloc, words) {
+        Ok(matches) => matches,
+        Err(error) => return stop_at(rt, &error),
+    };
+    let Some((name, found)) = matches.subcommand() else {
+        return Err(Fault::CommandLine);
+    };
+    if has_sign(found) {
+        error!(rt; target: PROGRAM, "a number has a sign");
+        return Err(Fault::CommandLine);
     }
+    execute(rt, alloc, name, found)
 }
 
 /// Runs the whole program: executes the command, prints the line of a fault on standard error, and returns the exit

@@ -1,7 +1,7 @@
 //! The commands of the program, with their options and help.
 
 use clap::builder::ValueParser;
-use clap::{Arg, ArgAction, Command, Error};
+use clap::{Arg, ArgAction, Command};
 use std::alloc::{AllocError, Global};
 
 /// The most connections that a listener accepts by its option.
@@ -86,37 +86,106 @@ Examples:
   drm_server serve --card card --render render --root root --until-ended --fail create_dumb:2=memory --control control
   drm_server serve --card card --render render --root root --cards 2 --until-input-ends --verbose";
 
-/// What an argument takes.
-#[derive(Clone, Copy)]
-enum Takes {
-    /// Nothing.
-    Flag,
-    /// Nothing. It is there in place of a number of connections.
-    FlagInPlaceOfConnections,
-    /// A file, without the name of an option.
+/// How an argument is written.
+enum Form {
+    /// As `--` and its name, with or without a value.
+    Option,
+    /// As a file, without its name.
     File,
-    /// The same, which may be left out.
-    OptionalFile,
-    /// Files, without the name of an option.
+    /// As one file or several.
     Files,
-    /// The path of a socket.
-    Socket,
-    /// A text, which has this name in the help. It may be left out.
-    Text(&'static str),
-    /// The limits of a device. They may be left out.
-    Limits,
-    /// A number of connections. If it is left out, it is 1.
-    Connections,
-    /// The number of a line.
-    Line,
-    /// The same, which may be left out. It is there in place of a client.
-    LineInPlaceOfClient,
-    /// A rule. The option may be left out, and may be there several times.
-    Rule,
 }
 
+/// What an argument takes.
+struct Takes {
+    form: Form,
+    /// What a use of it does.
+    action: ArgAction,
+    /// What its value must be.
+    parser: ValueParser<'static>,
+    /// The name of its value in the help.
+    value: Option<&'static str>,
+    /// The value if it is left out.
+    default: Option<&'static str>,
+    is_required: bool,
+    /// The options that can't be used with it.
+    excluded: &'static [&'static str],
+}
+
+/// An option with a text. It may be left out.
+const TEXT: Takes = Takes {
+    form: Form::Option,
+    action: ArgAction::Set,
+    parser: ValueParser::NonEmptyString,
+    value: Some("FILE"),
+    default: None,
+    is_required: false,
+    excluded: &[],
+};
+
+/// An option without a value.
+const FLAG: Takes = Takes {
+    action: ArgAction::SetTrue,
+    parser: ValueParser::Bool,
+    value: None,
+    ..TEXT
+};
+
+/// A file, which may be left out.
+const OPTIONAL_FILE: Takes = Takes {
+    form: Form::File,
+    value: None,
+    ..TEXT
+};
+
+const FILE: Takes = Takes {
+    is_required: true,
+    ..OPTIONAL_FILE
+};
+
+const FILES: Takes = Takes {
+    form: Form::Files,
+    action: ArgAction::Append,
+    ..FILE
+};
+
+/// The path of a socket.
+const SOCKET: Takes = Takes {
+    value: Some("PATH"),
+    is_required: true,
+    ..TEXT
+};
+
+/// The limits of a device. They may be left out.
+const LIMITS: Takes = Takes {
+    value: Some("NUMBERS"),
+    parser: ValueParser::String,
+    ..TEXT
+};
+
+/// A number of connections. If it is left out, it is 1.
+const CONNECTIONS: Takes = Takes {
+    value: Some("N"),
+    parser: ValueParser::Unsigned(0, MOST_CONNECTIONS),
+    default: Some("1"),
+    ..TEXT
+};
+
+/// The number of a line, which may be left out.
+const OPTIONAL_LINE: Takes = Takes {
+    value: Some("N"),
+    parser: ValueParser::Unsigned(0, u64::MAX),
+    ..TEXT
+};
+
+/// A rule. The option may be left out, and may be there several times.
+const RULE: Takes = Takes {
+    value: Some("RULE"),
+    action: ArgAction::Append,
+    ..TEXT
+};
+
 /// An argument of a command: a file, or an option.
-#[derive(Clone, Copy)]
 struct Argument {
     name: &'static str,
     takes: Takes,
@@ -125,27 +194,27 @@ struct Argument {
 
 const TOPOLOGY: Argument = Argument {
     name: "topology",
-    takes: Takes::Text("FILE"),
+    takes: TEXT,
     help: "A file with the device's CRTCs, planes, encoders and connectors",
 };
 
 const SCRIPT_LIMITS: Argument = Argument {
     name: "limits",
-    takes: Takes::Limits,
+    takes: LIMITS,
     help: "The device's limits if the script sets none: clients, handles, names, tokens, objects, framebuffers, lessees, journal",
 };
 
 const RUN: [Argument; 4] = [
     Argument {
         name: "FILE",
-        takes: Takes::OptionalFile,
+        takes: OPTIONAL_FILE,
         help: "The script; - is standard input, the default",
     },
     TOPOLOGY,
     SCRIPT_LIMITS,
     Argument {
         name: "journal",
-        takes: Takes::Text("FILE"),
+        takes: TEXT,
         help: "Writes the journal, a script with the expected answers, into this file at the end, also after a fault",
     },
 ];
@@ -153,14 +222,14 @@ const RUN: [Argument; 4] = [
 const CHECK: [Argument; 4] = [
     Argument {
         name: "update",
-        takes: Takes::Flag,
+        takes: FLAG,
         help: "Replaces the expected answers in the files by the actual ones",
     },
     TOPOLOGY,
     SCRIPT_LIMITS,
     Argument {
         name: "FILE",
-        takes: Takes::Files,
+        takes: FILES,
         help: "A script whose lines have the expected answers after ' -> '; - is standard input",
     },
 ];
@@ -168,22 +237,28 @@ const CHECK: [Argument; 4] = [
 const EXPLAIN: [Argument; 6] = [
     Argument {
         name: "FILE",
-        takes: Takes::File,
+        takes: FILE,
         help: "A script, whose expected answers after ' -> ' are ignored; - is standard input",
     },
     Argument {
         name: "client",
-        takes: Takes::Text("CLIENT"),
+        takes: Takes {
+            value: Some("CLIENT"),
+            ..TEXT
+        },
         help: "Explains only this client, and the leases that it created or redeemed: a label or a number",
     },
     Argument {
         name: "line",
-        takes: Takes::LineInPlaceOfClient,
+        takes: Takes {
+            excluded: &["client"],
+            ..OPTIONAL_LINE
+        },
         help: "Explains the answer to the line with this number: which rule failed, and which steps led to that",
     },
     Argument {
         name: "json",
-        takes: Takes::Flag,
+        takes: FLAG,
         help: "Prints JSON",
     },
     TOPOLOGY,
@@ -193,12 +268,15 @@ const EXPLAIN: [Argument; 6] = [
 const SHRINK: [Argument; 4] = [
     Argument {
         name: "FILE",
-        takes: Takes::File,
+        takes: FILE,
         help: "A script or a journal; - is standard input",
     },
     Argument {
         name: "line",
-        takes: Takes::Line,
+        takes: Takes {
+            is_required: true,
+            ..OPTIONAL_LINE
+        },
         help: "The line whose answer stays the same",
     },
     TOPOLOGY,
@@ -208,191 +286,194 @@ const SHRINK: [Argument; 4] = [
 const SERVE: [Argument; 17] = [
     Argument {
         name: "card",
-        takes: Takes::Socket,
+        takes: SOCKET,
         help: "The socket of primary clients",
     },
     Argument {
         name: "render",
-        takes: Takes::Socket,
+        takes: SOCKET,
         help: "The socket of render clients",
     },
     Argument {
         name: "root",
-        takes: Takes::Socket,
+        takes: SOCKET,
         help: "The socket of primary clients with root",
     },
     Argument {
         name: "cards",
-        takes: Takes::Connections,
+        takes: CONNECTIONS,
         help: "The number of connections of primary clients to accept, from 0 to 64",
     },
     Argument {
         name: "renders",
-        takes: Takes::Connections,
+        takes: CONNECTIONS,
         help: "The number of connections of render clients to accept, from 0 to 64",
     },
     Argument {
         name: "roots",
-        takes: Takes::Connections,
+        takes: CONNECTIONS,
         help: "The number of connections of primary clients with root to accept, from 0 to 64",
     },
     Argument {
         name: "until-ended",
-        takes: Takes::FlagInPlaceOfConnections,
+        takes: Takes {
+            excluded: &["cards", "renders", "roots"],
+            ..FLAG
+        },
         help: "Accepts any number of connections, at most 64 at once on each socket, until standard input ends",
     },
     Argument {
         name: "until-input-ends",
-        takes: Takes::Flag,
+        takes: FLAG,
         help: "Ends all connections and the server when standard input ends",
     },
     Argument {
         name: "verbose",
-        takes: Takes::Flag,
+        takes: FLAG,
         help: "Logs the path of each socket, and the number of connections that it accepts",
     },
     TOPOLOGY,
     Argument {
         name: "limits",
-        takes: Takes::Limits,
+        takes: LIMITS,
         help: "The device's limits: clients, handles, names, tokens, objects, framebuffers, lessees, journal",
     },
     Argument {
         name: "journal",
-        takes: Takes::Text("FILE"),
+        takes: TEXT,
         help: "Writes the journal, a script with the expected answers, into this file: a line for each step, as it happens",
     },
     Argument {
         name: "trace",
-        takes: Takes::Text("FILE"),
+        takes: TEXT,
         help: "Writes a line for each call and its answer into this file, as it happens; - is standard error",
     },
     Argument {
         name: "fail",
-        takes: Takes::Rule,
+        takes: RULE,
         help: "CALL[:N]=memory: refuses memory to the Nth call CALL that would add a row",
     },
     Argument {
         name: "stall",
-        takes: Takes::Rule,
+        takes: RULE,
         help: "CALL[:N]=MS: delays the answer to the Nth call CALL by MS milliseconds, from 1 to 60000",
     },
     Argument {
         name: "break",
-        takes: Takes::Rule,
+        takes: RULE,
         help: "CLIENT[:N]: closes the connection of client CLIENT in place of the answer to its Nth request",
     },
     Argument {
         name: "control",
-        takes: Takes::Text("PATH"),
+        takes: Takes {
+            value: Some("PATH"),
+            ..TEXT
+        },
         help: "A socket that takes such rules as lines while the server runs: fail, stall, break, clear, list",
     },
 ];
 
+/// A command, with its help and its arguments.
+struct Subcommand {
+    name: &'static str,
+    about: &'static str,
+    /// The end of its help.
+    status: &'static str,
+    arguments: &'static [Argument],
+}
+
+const SUBCOMMANDS: [Subcommand; 5] = [
+    Subcommand {
+        name: "run",
+        about: "Runs a script from a file or standard input, and prints its answers",
+        status: RUN_STATUS,
+        arguments: &RUN,
+    },
+    Subcommand {
+        name: "check",
+        about: "Runs the scripts in files, each on a new device, and reports the answers that differ from the expected ones",
+        status: CHECK_STATUS,
+        arguments: &CHECK,
+    },
+    Subcommand {
+        name: "explain",
+        about: "Runs a script, and explains by which of its steps each client and lease has what it has",
+        status: EXPLAIN_STATUS,
+        arguments: &EXPLAIN,
+    },
+    Subcommand {
+        name: "shrink",
+        about: "Prints a shorter script in which a line is answered the same, with all answers, and logs how many lines are left",
+        status: SHRINK_STATUS,
+        arguments: &SHRINK,
+    },
+    Subcommand {
+        name: "serve",
+        about: "Serves connections on three Unix sockets, then lists the rows of the device on standard output, also after a fault",
+        status: SERVE_STATUS,
+        arguments: &SERVE,
+    },
+];
+
 /// Returns an argument as the parser takes it.
-fn argument_of<'a>(alloc: Global, argument: Argument) -> Result<Arg<'a>, AllocError> {
-    let Argument { name, takes, help } = argument;
-    let arg = Arg::new(alloc, name).help(help);
-    let text = ValueParser::NonEmptyString;
-    let line = ValueParser::unsigned(0, u64::MAX);
-    match takes {
-        Takes::Flag => Ok(arg.long(name).action(ArgAction::SetTrue)),
-        Takes::FlagInPlaceOfConnections => arg
-            .long(name)
-            .action(ArgAction::SetTrue)
-            .conflicts_with("cards")?
-            .conflicts_with("renders")?
-            .conflicts_with("roots"),
-        Takes::File => Ok(arg.value_parser(text).required(true)),
-        Takes::OptionalFile => Ok(arg.value_parser(text)),
-        Takes::Files => Ok(
-            arg.value_parser(text)
-                .required(true)
-                .num_args(1..)
-                .action(ArgAction::Append),
-        ),
-        Takes::Socket => Ok(
-            arg.long(name)
-                .value_name("PATH")
-                .value_parser(text)
-                .required(true),
-        ),
-        Takes::Text(value) => Ok(arg.long(name).value_name(value).value_parser(text)),
-        Takes::Limits => Ok(arg.long(name).value_name("NUMBERS")),
-        Takes::Connections => Ok(
-            arg.long(name)
-                .value_name("N")
-                .value_parser(ValueParser::unsigned(0, MOST_CONNECTIONS))
-                .default_value("1"),
-        ),
-        Takes::Line => Ok(
-            arg.long(name)
-                .value_name("N")
-                .value_parser(line)
-                .required(true),
-        ),
-        Takes::LineInPlaceOfClient => arg
-            .long(name)
-            .value_name("N")
-            .value_parser(line)
-            .conflicts_with("client"),
-        Takes::Rule => Ok(
-            arg.long(name)
-                .value_name("RULE")
-                .value_parser(text)
-                .action(ArgAction::Append),
-        ),
+fn argument_of<'a>(alloc: Global, argument: &Argument) -> Result<Arg<'a>, AllocError> {
+    let takes = &argument.takes;
+    let mut arg = Arg::new(alloc, argument.name)
+        .help(argument.help)
+        .action(takes.action)
+        .value_parser(takes.parser)
+        .required(takes.is_required);
+    arg = match takes.form {
+        Form::Option => arg.long(argument.name),
+        Form::File => arg,
+        Form::Files => arg.num_args(1..),
+    };
+    if let Some(value) = takes.value {
+        arg = arg.value_name(value);
     }
+    if let Some(value) = takes.default {
+        arg = arg.default_value(value);
+    }
+    arg.conflicts_with_all(takes.excluded)
 }
 
-/// Adds arguments to a command.
-fn with_arguments<'a>(
-    alloc: Global,
-    command: Command<'a>,
-    arguments: &[Argument],
-) -> Result<Command<'a>, AllocError> {
-    let mut command = command;
+/// Returns arguments as the parser takes them.
+fn arguments_of<'a>(alloc: Global, arguments: &[Argument]) -> Result<Vec<Arg<'a>>, AllocError> {
+    let mut args = Vec::new(alloc);
     for argument in arguments {
-        command = command.arg(argument_of(alloc, *argument)?)?;
+        args.push(argument_of(alloc, argument)?)?;
     }
-    Ok(command)
+    Ok(args)
 }
 
-/// Returns the command line of the program.
-pub(crate) fn command<'a>(alloc: Global) -> Result<Command<'a>, Error> {
-    let run = Command::new(alloc, "run")
-        .about("Runs a script from a file or standard input, and prints its answers")
-        .after_help(RUN_STATUS);
-    let check = Command::new(alloc, "check")
-        .about(
-            "Runs the scripts in files, each on a new device, and reports the answers that differ from the expected ones",
-        )
-        .after_help(CHECK_STATUS);
-    let explain = Command::new(alloc, "explain")
-        .about(
-            "Runs a script, and explains by which of its steps each client and lease has what it has",
-        )
-        .after_help(EXPLAIN_STATUS);
-    let shrink = Command::new(alloc, "shrink")
-        .about(
-            "Prints a shorter script in which a line is answered the same, with all answers, and logs how many lines are left",
-        )
-        .after_help(SHRINK_STATUS);
-    let serve = Command::new(alloc, "serve")
-        .about(
-            "Serves connections on three Unix sockets, then lists the rows of the device on standard output, also after a fault",
-        )
-        .after_help(SERVE_STATUS);
-    let command = Command::new(alloc, "drm_server")
-        .bin_name("drm_server")?
+/// Returns a command as the parser takes it.
+fn subcommand_of<'a>(alloc: Global, subcommand: &Subcommand) -> Result<Command<'a>, AllocError> {
+    let args = arguments_of(alloc, subcommand.arguments)?;
+    Command::new(alloc, subcommand.name)
+        .about(subcommand.about)
+        .after_help(subcommand.status)
+        .args(args)
+}
+
+/// Returns the command line of the program, with these commands.
+fn command_with<'a>(
+    alloc: Global,
+    subcommands: Vec<Command<'a>>,
+) -> Result<Command<'a>, AllocError> {
+    Command::new(alloc, "drm_server")
         .version("2.1.0")
         .about("A display and buffer server with the access rules of the Linux DRM interface")
         .after_help(STATUS)
         .subcommand_required(true)
-        .subcommand(with_arguments(alloc, run, &RUN)?)?
-        .subcommand(with_arguments(alloc, check, &CHECK)?)?
-        .subcommand(with_arguments(alloc, explain, &EXPLAIN)?)?
-        .subcommand(with_arguments(alloc, shrink, &SHRINK)?)?
-        .subcommand(with_arguments(alloc, serve, &SERVE)?)?;
-    Ok(command)
+        .bin_name("drm_server")?
+        .subcommands(subcommands)
+}
+
+/// Returns the command line of the program.
+pub(crate) fn command<'a>(alloc: Global) -> Result<Command<'a>, AllocError> {
+    let mut subcommands = Vec::new(alloc);
+    for subcommand in &SUBCOMMANDS {
+        subcommands.push(subcommand_of(alloc, subcommand)?)?;
+    }
+    command_with(alloc, subcommands)
 }

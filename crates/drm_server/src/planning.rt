@@ -1,6 +1,6 @@
 //! The faults on purpose that the command line asks for.
 
-use crate::command_line::AskedRules;
+use clap::ArgMatches;
 use drm_commands::Fault;
 use drm_traffic::{PROGRAM, Plan, RuleKind, read_rule};
 use log::{Log, error};
@@ -32,17 +32,20 @@ fn add_all<R: Log + Wait>(
 pub(crate) fn plan_of<R: Log + Wait>(
     rt: &R,
     alloc: Global,
-    rules: &AskedRules<'_>,
+    matches: &ArgMatches<'_>,
     control: Option<&str>,
 ) -> Result<Option<Plan>, Fault> {
-    if rules.is_empty() && control.is_none() {
+    let fails = matches.get_strs("fail").unwrap_or(&[]);
+    let stalls = matches.get_strs("stall").unwrap_or(&[]);
+    let breaks = matches.get_strs("break").unwrap_or(&[]);
+    if fails.is_empty() && stalls.is_empty() && breaks.is_empty() && control.is_none() {
         return Ok(None);
     }
     let Ok(plan) = Plan::new(alloc) else {
         return Err(Fault::Memory);
     };
-    add_all(rt, &plan, RuleKind::Fail, "fail", &rules.fails)?;
-    add_all(rt, &plan, RuleKind::Stall, "stall", &rules.stalls)?;
-    add_all(rt, &plan, RuleKind::Break, "break", &rules.breaks)?;
+    add_all(rt, &plan, RuleKind::Fail, "fail", fails)?;
+    add_all(rt, &plan, RuleKind::Stall, "stall", stalls)?;
+    add_all(rt, &plan, RuleKind::Break, "break", breaks)?;
     Ok(Some(plan))
 }

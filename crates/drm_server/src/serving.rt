@@ -7,10 +7,10 @@ use crate::command_line::{Accepts, Serving};
 use crate::controlling::control;
 use crate::ending::end_with_input;
 use crate::growing_journal::{GrowingJournal, Growth, grow};
-use crate::sockets::{Sockets, bind_all, bind_control};
+use crate::sockets::SocketFiles;
 use crate::tracing::{Trace, write_trace};
 use drm_commands::Fault;
-use drm_connections::{MOST_AT_ONCE, OpenConnections};
+use drm_connections::{Counts, MOST_AT_ONCE, OpenConnections};
 use drm_device::Device;
 use drm_listeners::{Listeners, ServeFault, Unserved, serve_keeping, serve_until_ended};
 use drm_traffic::{PROGRAM, Plan, Watch};
@@ -22,6 +22,13 @@ use std::rt::Files;
 use std::sync::Wait;
 use std::thread;
 use std::thread::{JoinHandle, Scope, Threads};
+
+/// The most connections on each socket at once.
+const AT_ONCE: Counts = Counts {
+    cards: MOST_AT_ONCE as u8,
+    renders: MOST_AT_ONCE as u8,
+    roots: MOST_AT_ONCE as u8,
+};
 
 /// Returns the fault of the program if not all connections were served.
 pub(crate) fn fault_of(fault: ServeFault) -> Fault
@@ -38,21 +45,16 @@ pub(crate) fn fault_of(fault: ServeFault) -> Fault
 /// Logs the paths of the sockets, and the number of connections that the server accepts on each.
 fn log_sockets<R: Log>(rt: &R, serving: &Serving<'_>) {
     let paths = serving.paths;
-    match serving.accepts {
-        Accepts::AnyNumber => {
-            for (name, path) in [
-                ("card", paths.card),
-                ("render", paths.render),
-                ("root", paths.root),
-            ] {
-                info!(rt; target: PROGRAM, "{name}: {path} accepts {MOST_AT_ONCE} at once");
-            }
-        }
-        Accepts::Counted(counts) => {
-            info!(rt; target: PROGRAM, "card: {} accepts {} in all", paths.card, counts.cards);
-            info!(rt; target: PROGRAM, "render: {} accepts {} in all", paths.render, counts.renders);
-            info!(rt; target: PROGRAM, "root: {} accepts {} in all", paths.root, counts.roots);
-        }
+    let (counts, how) = match serving.accepts {
+        Accepts::AnyNumber => (AT_ONCE, "at once"),
+        Accepts::Counted(counts) => (counts, "in all"),
+    };
+    for (name, path, count) in [
+        ("card", paths.card, counts.cards),
+        ("render", paths.render, counts.renders),
+        ("root", paths.root, counts.roots),
+    ] {
+        info!(rt; target: PROGRAM, "{name}: {path} accepts {count} {how}");
     }
     if let Some(path) = serving.control {
         info!(rt; target: PROGRAM, "control: {path}");
@@ -184,10 +186,10 @@ fn serve_open<'s, E: 's, R: Input + Log + Wait + Threads + Sync>(
     server.join(rt)
 }
 
-/// What is written while a device is served, and the watch from which it is taken.
+/// What is written while a device is served, and the watch from which it is taken, if anything is.
 #[derive(Drop)]
 pub(crate) struct Writers {
-    pub(crate) watch: Watch,
+    pub(crate) watch: Option<Watch>,
     pub(crate) journal: Option<GrowingJournal>,
     pub(crate) trace: Option<Trace>,
 }
@@ -199,6 +201,14 @@ pub(crate) struct WrittenLines {
     pub(crate) journal: Option<Growth>,
     /// The number of calls without a line in the trace, if its thread was started.
     pub(crate) left_out: Option<u64>,
+}
+
+impl WrittenLines {
+    /// What was written if no thread was started.
+    const NONE: WrittenLines = WrittenLines {
+        journal: None,
+        left_out: None,
+    };
 }
 
 /// What threads do while a device is served.
@@ -360,46 +370,40 @@ struct Planned {
     control: Option<UnixListener>,
 }
 
-/// Serves the connections, as the command line says.
-fn serve_listeners<R: Input + Net + Log + Wait + Threads + Sync>(
-    rt: &R,
-    alloc: Global,
-    task: Task,
-    ends_with_input: bool,
-    writers: Option<Writers>,
-    rules: Planned,
-) -> Ended {
-    let (open, ends) = match make_room(rt, alloc, task.accepts, ends_with_input) {
-        Ok(room) => room,
-        Err(fault) => {
-            let written = WrittenLines {
-                journal: None,
-                left_out: None,
-            };
-            return Ended::new(Err(unbegun(fault, task)), written);
-        }
-    };
-    let Planned { plan, control } = rules;
+/// Returns the open connections with what sees each of their calls.
+fn observed(open: OpenConnections, plan: Option<Plan>, watch: Option<Watch>) -> OpenConnections {
     let open = match plan {
         Some(plan) => open.planned_by(plan),
         None => open,
     };
-    let (open, journal, trace) = match writers {
-        Some(
-            Writers {
-                watch,
-                journal,
-                trace,
-            },
-        ) => (open.watched_by(watch), journal, trace),
-        None => (open, None, None),
-    };
+    match watch {
+        Some(watch) => open.watched_by(watch),
+        None => open,
+    }
+}
+
+/// Serves the connections in the room for them.
+fn serve_in_room<R: Input + Log + Wait + Threads + Sync>(
+    rt: &R,
+    alloc: Global,
+    task: Task,
+    room: Room,
+    writers: Writers,
+    rules: Planned,
+) -> Ended {
+    let (open, ends) = room;
+    let Writers {
+        watch,
+        journal,
+        trace,
+    } = writers;
+    let Planned { plan, control } = rules;
+    let open = &observed(open, plan, watch);
     let jobs = Jobs {
         journal,
         trace,
         control,
     };
-    let open = &open;
     thread::scope(thread::scope_env(), rt, move |scope| {
         serve_next_to_jobs(scope, rt, alloc, task, open, ends, jobs)
     })
@@ -411,26 +415,24 @@ pub(crate) fn serve_device<R: Input + Files + Net + Log + Wait + Threads + Sync>
     rt: &R,
     alloc: Global,
     device: Device,
-    serving: Serving<'_>,
-    writers: Option<Writers>,
+    serving: &Serving<'_>,
+    writers: Writers,
     plan: Option<Plan>,
 ) -> Result<Ended, Fault> {
-    let Sockets { card, render, root } = bind_all(rt, serving.paths)?;
-    let (control, control_file) = bind_control(rt, serving.control)?;
-    let _files = (card.file, render.file, root.file, control_file);
-    let listeners = Listeners {
-        card: card.listener,
-        render: render.listener,
-        root: root.listener,
-    };
+    let mut files = SocketFiles::new(rt);
+    let listeners = files.bind_all(serving.paths)?;
+    let control = files.bind_control(serving.control)?;
     if serving.is_verbose {
-        log_sockets(rt, &serving);
+        log_sockets(rt, serving);
     }
+    let accepts = serving.accepts;
     let task = Task {
         device,
         listeners,
-        accepts: serving.accepts,
+        accepts,
     };
-    let rules = Planned { plan, control };
-    Ok(serve_listeners(rt, alloc, task, serving.ends_with_input, writers, rules))
+    match make_room(rt, alloc, accepts, serving.ends_with_input) {
+        Ok(room) => Ok(serve_in_room(rt, alloc, task, room, writers, Planned { plan, control })),
+        Err(fault) => Ok(Ended::new(Err(unbegun(fault, task)), WrittenLines::NONE)),
+    }
 }

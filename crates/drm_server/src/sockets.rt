@@ -4,7 +4,7 @@ ghost use Rattle.std.specs.Prelude.{◌≡◌, IfErr};
 ghost use Rattle.drm_commands.specs.declared.faults.Fault.TheVariants.{Listen};
 
 use drm_commands::Fault;
-use drm_listeners::{CardClass, ClassListener, ListenerClass, RenderClass, RootClass};
+use drm_listeners::{CardClass, ClassListener, ListenerClass, Listeners, RenderClass, RootClass};
 use drm_sessions::Class;
 use drm_traffic::PROGRAM;
 use log::{Log, error};
@@ -53,18 +53,32 @@ fn file_at<R: Files>(rt: &R, path: &str) -> Option<FileId> {
     })
 }
 
-/// The file of a bound socket. On drop it is removed, if it is still the one that was bound.
-pub(crate) struct SocketFile<'a, R: Files> {
-    rt: &'a R,
+/// How many sockets the program binds.
+const SOCKETS: usize = 4;
+
+/// The file of a bound socket.
+#[derive(Clone, Copy)]
+struct SocketFile<'a> {
     path: &'a str,
-    bound: Option<FileId>,
+    id: FileId,
 }
 
-impl<R: Files> Drop for SocketFile<'_, R> {
+/// The files of the bound sockets card, render, root and control. On drop each is removed, if it is still the one that was
+/// bound.
+pub(crate) struct SocketFiles<'a, R: Files> {
+    rt: &'a R,
+    files: [Option<SocketFile<'a>>; SOCKETS],
+}
+
+impl<R: Files> Drop for SocketFiles<'_, R> {
     fn drop(self) {
-        let Self { rt, path, bound } = self;
-        if bound.is_some() && file_at(rt, path) == bound {
-            let _ = fs::remove_file(rt, path);
+        let Self { rt, files } = self;
+        for file in files {
+            if let Some(SocketFile { path, id }) = file {
+                if file_at(rt, path) == Some(id) {
+                    let _ = fs::remove_file(rt, path);
+                }
+            }
         }
     }
 }
@@ -84,86 +98,68 @@ fn tell<R: Log>(rt: &R, path: &str, reason: &io::Error) {
     }
 }
 
-/// A bound socket.
-#[derive(Drop)]
-struct Socket<'a, R: Files> {
-    listener: UnixListener,
-    file: SocketFile<'a, R>,
-}
+impl<'a, R: Files + Net + Log> SocketFiles<'a, R> {
+    /// Creates the list of no socket.
+    pub(crate) fn new(rt: &'a R) -> SocketFiles<'a, R> {
+        let files = [None; SOCKETS];
+        SocketFiles { rt, files }
+    }
 
-impl<'a, R: Files + Net + Log> Socket<'a, R> {
-    /// Binds a socket at a path without a file. If that fails, an existing file is unchanged, and the cause is logged.
-    fn bound(rt: &'a R, path: &'a str) -> Option<Socket<'a, R>> {
-        match UnixListener::bind(rt, path) {
+    /// Binds a socket at a path without a file, and keeps its file at this place. If that fails, an existing file is
+    /// unchanged, and the cause is logged.
+    fn bind(&mut self, place: usize, path: &'a str) -> Option<UnixListener> {
+        match UnixListener::bind(self.rt, path) {
             Ok(listener) => {
-                let bound = file_at(rt, path);
-                let file = SocketFile { rt, path, bound };
-                Some(Socket { listener, file })
+                if let Some(id) = file_at(self.rt, path) {
+                    if let Some(file) = self.files.get_mut(place) {
+                        *file = Some(SocketFile { path, id });
+                    }
+                }
+                Some(listener)
             }
             Err(reason) => {
-                tell(rt, path, &reason);
+                tell(self.rt, path, &reason);
                 None
             }
         }
     }
-}
 
-/// Binds the socket of control, if there is to be one. Returns its listener, and its file.
-pub(crate) fn bind_control<'a, R: Files + Net + Log>(
-    rt: &'a R,
-    path: Option<&'a str>,
-) -> Result<(Option<UnixListener>, Option<SocketFile<'a, R>>), Fault> {
-    let Some(path) = path else {
-        return Ok((None, None));
-    };
-    match Socket::bound(rt, path) {
-        Some(Socket { listener, file }) => Ok((Some(listener), Some(file))),
-        None => Err(Fault::Control),
+    /// Binds the socket of control, if there is to be one.
+    pub(crate) fn bind_control(
+        &mut self,
+        path: Option<&'a str>,
+    ) -> Result<Option<UnixListener>, Fault> {
+        let Some(path) = path else {
+            return Ok(None);
+        };
+        match self.bind(3, path) {
+            Some(listener) => Ok(Some(listener)),
+            None => Err(Fault::Control),
+        }
     }
-}
 
-/// The bound socket of class `C`.
-#[derive(Drop)]
-pub(crate) struct ClassSocket<'a, R: Files, C: ListenerClass> {
-    pub(crate) listener: ClassListener<C>,
-    pub(crate) file: SocketFile<'a, R>,
-}
-
-/// Binds the socket of class `C` at its path.
-fn bind<'a, R: Files + Net + Log, C: ListenerClass>(
-    rt: &'a R,
-    paths: Paths<'a>,
-) -> Result<ClassSocket<'a, R, C>, Fault>
-    ensures { IfErr result (λ fault. fault ≡ Listen C.of) }
-{
-    let class = C::class();
-    match Socket::bound(rt, paths.of(class)) {
-        Some(Socket { listener, file }) => Ok(ClassSocket {
-            listener: ClassListener::new(listener),
-            file,
-        }),
-        None => Err(Fault::Listen(class)),
+    /// Binds the socket of class `C` at its path.
+    fn bind_class<C: ListenerClass>(
+        &mut self,
+        place: usize,
+        paths: Paths<'a>,
+    ) -> Result<ClassListener<C>, Fault>
+        ensures { IfErr result (λ fault. fault ≡ Listen C.of) }
+    {
+        let class = C::class();
+        match self.bind(place, paths.of(class)) {
+            Some(listener) => Ok(ClassListener::new(listener)),
+            None => Err(Fault::Listen(class)),
+        }
     }
-}
 
-/// The three bound sockets.
-#[derive(Drop)]
-pub(crate) struct Sockets<'a, R: Files> {
-    pub(crate) card: ClassSocket<'a, R, CardClass>,
-    pub(crate) render: ClassSocket<'a, R, RenderClass>,
-    pub(crate) root: ClassSocket<'a, R, RootClass>,
-}
-
-/// Binds the sockets in the order card, render, root. If one can't be bound, those before it are closed and their files
-/// are removed.
-pub(crate) fn bind_all<'a, R: Files + Net + Log>(
-    rt: &'a R,
-    paths: Paths<'a>,
-) -> Result<Sockets<'a, R>, Fault>
-    ensures { IfErr result (λ fault. (class : Class) × (fault ≡ Listen class)) }
-{
-    let card = bind::<R, CardClass>(rt, paths)?;
-    let render = bind::<R, RenderClass>(rt, paths)?;
-    let root = bind::<R, RootClass>(rt, paths)?;
-    Ok(Sockets { card, render, root })
+    /// Binds the sockets in the order card, render, root. If one can't be bound, those before it are closed.
+    pub(crate) fn bind_all(&mut self, paths: Paths<'a>) -> Result<Listeners, Fault>
+        ensures { IfErr result (λ fault. (class : Class) × (fault ≡ Listen class)) }
+    {
+        let card = self.bind_class::<CardClass>(0, paths)?;
+        let render = self.bind_class::<RenderClass>(1, paths)?;
+        let root = self.bind_class::<RootClass>(2, paths)?;
+        Ok(Listeners { card, render, root })
+    }
 }

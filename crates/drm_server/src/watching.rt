@@ -8,7 +8,8 @@ use crate::growing_journal::{GrowingJournal, Growth};
 use crate::serving::Writers;
 use crate::tracing::Trace;
 use drm_commands::{
-    Fault, JournalFile, TopologyText, asked_device, complete_journal, create_trace,
+    Fault, FilesRead, JournalFile, TopologyText, asked_device, complete_journal, create_asked,
+    create_trace,
 };
 use drm_connections::Outlet;
 use drm_device::{Device, Limits};
@@ -32,29 +33,34 @@ pub(crate) enum TraceTarget<'a, F: Drop> {
     File(JournalFile<'a, F>),
 }
 
-impl<'a, F: Drop> TraceTarget<'a, F> {
-    /// Returns the name of the target.
-    fn name(&self) -> &'a str {
-        match self {
-            TraceTarget::StandardError => "standard error",
-            TraceTarget::File(file) => file.path(),
-        }
-    }
+/// The files that are written while a device is served.
+#[derive(Drop)]
+pub(crate) struct ServedFiles<'a, F: Drop> {
+    pub(crate) journal: Option<JournalFile<'a, F>>,
+    pub(crate) trace: Option<TraceTarget<'a, F>>,
 }
 
-/// Creates the file of the trace, if there is to be one.
-pub(crate) fn create_target<'a, R: Files + Log>(
+/// Creates the files of the journal and of the trace, if there are to be any.
+pub(crate) fn create_files<'a, R: Files + Log>(
     rt: &R,
     serving: &Serving<'a>,
-) -> Result<Option<TraceTarget<'a, R::File>>, Fault> {
-    match serving.trace {
-        None => Ok(None),
-        Some(path) if path == STANDARD => Ok(Some(TraceTarget::StandardError)),
-        Some(path) => {
-            let file = create_trace(rt, path, serving.device.topology, serving.journal)?;
-            Ok(Some(TraceTarget::File(file)))
-        }
+) -> Result<ServedFiles<'a, R::File>, Fault> {
+    let read = FilesRead {
+        topology: serving.device.topology,
+        script: None,
+    };
+    let mut files = ServedFiles {
+        journal: create_asked(rt, serving.journal, read)?,
+        trace: None,
+    };
+    if let Some(path) = serving.trace {
+        files.trace = Some(if path == STANDARD {
+            TraceTarget::StandardError
+        } else {
+            TraceTarget::File(create_trace(rt, path, read.topology, serving.journal)?)
+        });
     }
+    Ok(files)
 }
 
 /// Returns the colours for a file: none but on a terminal, and only if the environment allows them.
@@ -69,56 +75,75 @@ fn palette_for<R: Env>(rt: &R, outlet: Outlet) -> Palette {
     }
 }
 
-/// Returns the open file of a target.
-fn outlet_of<F: AsRawFd + Drop>(target: &TraceTarget<'_, F>) -> Outlet {
-    match target {
+/// Begins the journal of a device of this topology and these limits.
+fn begin_journal<R: Files + Log>(
+    rt: &R,
+    alloc: Global,
+    topology: Option<&TopologyText<'_>>,
+    limits: Limits,
+    file: &JournalFile<'_, R::File>,
+) -> Result<GrowingJournal, Fault>
+where
+    R::File: AsRawFd,
+    requires { are_in_range limits ≡ true }
+{
+    let descriptor = file.file().as_raw_fd();
+    let device = asked_device(rt, alloc, topology, limits)?;
+    GrowingJournal::begin(alloc, Outlet { descriptor }, limits, device)
+}
+
+/// Begins the trace of a device of this topology and these limits.
+fn begin_trace<R: Files + Log + Env>(
+    rt: &R,
+    alloc: Global,
+    topology: Option<&TopologyText<'_>>,
+    limits: Limits,
+    target: &TraceTarget<'_, R::File>,
+) -> Result<Trace, Fault>
+where
+    R::File: AsRawFd,
+    requires { are_in_range limits ≡ true }
+{
+    let outlet = match target {
         TraceTarget::StandardError => Outlet::STANDARD_ERROR,
         TraceTarget::File(file) => Outlet {
             descriptor: file.file().as_raw_fd(),
         },
-    }
+    };
+    let device = asked_device(rt, alloc, topology, limits)?;
+    Trace::begin(alloc, outlet, palette_for(rt, outlet), device)
 }
 
-/// Returns what is written while a device of this topology and these limits is served, if anything.
+/// Returns what is written into these files while a device of this topology and these limits is served.
 pub(crate) fn writers_of<R: Files + AllocGlobal + Log + Env>(
     rt: &R,
     alloc: Global,
     topology: Option<&TopologyText<'_>>,
     limits: Limits,
-    journal: Option<&JournalFile<'_, R::File>>,
-    trace: Option<&TraceTarget<'_, R::File>>,
-) -> Result<Option<Writers>, Fault>
+    files: &ServedFiles<'_, R::File>,
+) -> Result<Writers, Fault>
 where
     R::File: AsRawFd,
     requires { are_in_range limits ≡ true }
 {
-    if journal.is_none() && trace.is_none() {
-        return Ok(None);
+    let mut writers = Writers {
+        watch: None,
+        journal: None,
+        trace: None,
+    };
+    if let Some(file) = &files.journal {
+        writers.journal = Some(begin_journal(rt, alloc, topology, limits, file)?);
     }
-    let Ok(watch) = Watch::new(alloc, limits.journal as usize) else {
-        return Err(Fault::Memory);
-    };
-    let journal = match journal {
-        None => None,
-        Some(journal) => {
-            let descriptor = journal.file().as_raw_fd();
-            let device = asked_device(rt, alloc, topology, limits)?;
-            Some(GrowingJournal::begin(alloc, Outlet { descriptor }, limits, device)?)
-        }
-    };
-    let trace = match trace {
-        None => None,
-        Some(target) => {
-            let outlet = outlet_of(target);
-            let device = asked_device(rt, alloc, topology, limits)?;
-            Some(Trace::begin(alloc, outlet, palette_for(rt, outlet), device)?)
-        }
-    };
-    Ok(Some(Writers {
-        watch,
-        journal,
-        trace,
-    }))
+    if let Some(target) = &files.trace {
+        writers.trace = Some(begin_trace(rt, alloc, topology, limits, target)?);
+    }
+    if writers.journal.is_some() || writers.trace.is_some() {
+        let Ok(watch) = Watch::new(alloc, limits.journal as usize) else {
+            return Err(Fault::Memory);
+        };
+        writers.watch = Some(watch);
+    }
+    Ok(writers)
 }
 
 /// Writes what is missing in the journal of a device that was served, and compares its file with the journal.
@@ -164,7 +189,10 @@ pub(crate) fn warn_of_left_out<R: Log, F: Drop>(
 ) {
     match (target, left_out) {
         (Some(target), Some(count)) if count > 0 && Outlet::STANDARD_ERROR.has_room() => {
-            let name = target.name();
+            let name = match target {
+                TraceTarget::StandardError => "standard error",
+                TraceTarget::File(file) => file.path(),
+            };
             warn!(rt; target: PROGRAM, "{name}: {count} calls have no line in the trace");
         }
         _ => {}

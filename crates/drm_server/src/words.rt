@@ -32,7 +32,7 @@ pub(crate) fn words_of<R: Env + AllocGlobal + Log>(
     alloc: Global,
 ) -> Result<Vec<String>, Fault> {
     match env::args(rt) {
-        Ok(words) => words.collect(alloc).map_err(|_| Fault::Memory),
+        Ok(words) => words.collect(alloc).or(Err(Fault::Memory)),
         Err(reason) if reason.kind() == ErrorKind::OutOfMemory => Err(Fault::Memory),
         Err(_) => {
             match word_of_no_text(rt, alloc) {
