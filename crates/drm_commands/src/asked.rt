@@ -1,7 +1,7 @@
 //! The arguments of the commands.
 
 /// The device that the command line describes (own).
-#[derive(Clone, Copy, Debug, PartialEq)]
+#[derive(Clone, Copy, Debug)]
 pub struct AskedDevice<'a> {
     /// The file of its topology. By default it has the test topology.
     pub topology: Option<&'a str>,
@@ -10,7 +10,7 @@ pub struct AskedDevice<'a> {
 }
 
 /// The arguments of `drm_server run` (own).
-#[derive(Clone, Copy, Debug, PartialEq)]
+#[derive(Clone, Copy, Debug)]
 pub struct Running<'a> {
     /// The file of the script, or `None` for standard input.
     pub path: Option<&'a str>,
@@ -21,7 +21,7 @@ pub struct Running<'a> {
 }
 
 /// The arguments of `drm_server check` and `drm_server update` (own).
-#[derive(Debug, PartialEq, Drop)]
+#[derive(Debug, Drop)]
 pub struct Checking<'a> {
     /// The files.
     pub files: Vec<&'a str>,
@@ -30,7 +30,7 @@ pub struct Checking<'a> {
 }
 
 /// The arguments of `drm_server explain` (own).
-#[derive(Clone, Copy, Debug, PartialEq)]
+#[derive(Clone, Copy, Debug)]
 pub struct Explaining<'a> {
     /// The file of the script.
     pub path: &'a str,
@@ -45,7 +45,7 @@ pub struct Explaining<'a> {
 }
 
 /// The arguments of `drm_server shrink` (own).
-#[derive(Clone, Copy, Debug, PartialEq)]
+#[derive(Clone, Copy, Debug)]
 pub struct Shrinking<'a> {
     /// The file of the script.
     pub path: &'a str,

@@ -59,7 +59,7 @@ impl<'a, F: Drop> JournalFile<'a, F> {
 }
 
 /// The files that a journal must not replace (own).
-#[derive(Clone, Copy, Debug, PartialEq)]
+#[derive(Clone, Copy, Debug)]
 pub struct FilesRead<'a> {
     /// The file of the topology.
     pub topology: Option<&'a str>,
