@@ -27,7 +27,7 @@ from blocks import tables_of  # noqa: E402
 CONSTANTS = REPOSITORY / "tools/constants"
 # a function and a derive cost the gate some two seconds each, and a test in Rust more: how many lines of tests in Rust, tests,
 # and functions and derives of all crates there are at most, and how many there should be
-MOST = {"lines of tests": (6_919, 6_000), "tests": (101, 150), "functions and derives": (3_146, 2_700)}
+MOST = {"lines of tests": (6_837, 6_000), "tests": (100, 150), "functions and derives": (3_075, 2_700)}
 FUNCTION = re.compile(r"^\s*(?:pub(?:\(\w+\))? )?(?:const )?fn \w+", re.MULTILINE)
 DERIVES = re.compile(r"#\[derive\(([^)]*)\)\]")
 # what the constants are read from

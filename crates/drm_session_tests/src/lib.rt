@@ -1,6 +1,6 @@
-//! The tests of a device by its own calls and of one that threads share, and of scripts and sessions over streams that fail: tables
-//! of cases, run by few functions. Scripts show the rest, and `tests/test_frames.py` and `tests/test_streams.py` show sessions of the
-//! built program.
+//! The tests of a device by its own calls, of one that threads share, and of scripts and sessions over streams that fail. They are
+//! tables of cases, run by few functions. Scripts show the rest, and `tests/test_frames.py` and `tests/test_streams.py` show sessions
+//! of the built program.
 #![tactic(auto)]
 
 #[cfg(test)]
