@@ -212,13 +212,13 @@ MOST_WORDS = {
     "CHANGELOG.md": 1_500,
     "docs/ARCHITECTURE.md": 3_230,
     "docs/COMMANDS.md": 3_750,
-    "docs/DECISIONS.md": 4_150,
+    "docs/DECISIONS.md": 4_181,
     "docs/FRAMES.md": 1_700,
     "docs/LIBDRM.md": 3_340,
     "docs/PROMISES.md": 8_268,
     "docs/RULES.md": 4_071,
     "docs/SERVER.md": 1_970,
-    "in all": 49_624,
+    "in all": 49_708,
 }
 
 # the folder of examples that each guide shows
