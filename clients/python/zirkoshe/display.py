@@ -74,12 +74,16 @@ class Screen(NamedTuple):
 def _plane_of(fields: Dict[str, Any]) -> Plane:
     letters = int(fields["format"]).to_bytes(4, "little").decode("ascii", "replace")
     source = tuple(part / ONE for part in fields["source"])
-    named = {**fields, "format": letters.strip("\0"), "source": source}
+    named: Dict[str, Any] = {**fields, "format": letters.strip("\0"), "source": source}
     return Plane(**named)
 
 
 def _screen_of(fields: Dict[str, Any]) -> Screen:
-    return Screen(**{**fields, "planes": tuple(map(_plane_of, fields["planes"]))})
+    named: Dict[str, Any] = {
+        **fields,
+        "planes": tuple(map(_plane_of, fields["planes"])),
+    }
+    return Screen(**named)
 
 
 class Display:

@@ -225,7 +225,7 @@ class Difference(NamedTuple):
     `picture` is white if a pixel differs by more than the tolerance.
     """
 
-    count: int
+    pixels: int
     most: int
     first: Tuple[int, int]
     picture: Picture
@@ -281,10 +281,10 @@ def expect_picture(picture: Picture, path: PathLike, tolerance: int = 0) -> None
             f"{wanted.width}x{wanted.height}"
         )
     difference = difference_of(picture, wanted, tolerance)
-    if difference.count > 0:
+    if difference.pixels > 0:
         found = _keep(picture, kept, "found")
         marked = _keep(difference.picture, kept, "difference")
         raise PictureError(
-            f"{found} differs from {kept} in {difference.count} pixels, by at most "
+            f"{found} differs from {kept} in {difference.pixels} pixels, by at most "
             f"{difference.most}, first at {difference.first}: see {marked}"
         )
